@@ -1,0 +1,9 @@
+pub mod Bins
+pub mod Configuration
+pub mod GroupInput
+pub mod Memory
+pub mod Outside
+pub mod Samples
+pub mod Video
+pub mod VideoLaws
+pub mod Standard

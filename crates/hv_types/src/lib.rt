@@ -1,0 +1,34 @@
+//! The types that all crates of the encoder share: settings, pictures, pieces of work, bins, and the
+//! traits through which the encoder reads and writes.
+#![tactic(auto)]
+
+mod answers;
+mod bins;
+mod group_input;
+mod memory;
+mod outside;
+mod picture;
+mod piece;
+mod plane;
+mod script;
+mod settings;
+mod standard;
+mod steady;
+mod video_laws;
+mod words;
+
+pub use answers::{Failed, NoMemory};
+pub use bins::{BinSink, Ctx, CtxTable, SliceKind};
+pub use group_input::GroupInput;
+pub use memory::{MemorySink, MemorySource};
+pub use outside::{Gate, OpenGate, Sink, Source};
+pub use picture::Picture;
+pub use piece::{Piece, PieceKind};
+pub use plane::Plane;
+pub use settings::{Config, ConfigError, Emit, Field, Settings, SynthSpec};
+pub use standard::{StdSink, StdSource};
+pub use steady::{SteadySink, SteadySource};
+pub use video_laws::{
+    bytes_law, crop_pad_law, front_law, pad_law, raw_law, read_back_law, split_law,
+};
+pub use words::Words;

@@ -1,0 +1,5 @@
+use Rattle.hv_model.proofs.PayloadLaws.{parameters-back}
+use Rattle.hv_model.proofs.payload_laws.parameters_are_read.Goals as goal
+
+pub returns : goal.returns
+returns g c = parameters-back _

@@ -1,0 +1,5 @@
+use Rattle.hv_model.proofs.SliceLaws.{slice_data-back}
+use Rattle.hv_model.proofs.payload_laws.slice_data_is_read.Goals as goal
+
+pub returns : goal.returns
+returns c = slice_data-back

@@ -1,0 +1,5 @@
+use Rattle.hv_model.proofs.SliceLaws.{slices_end}
+use Rattle.hv_model.proofs.payload_laws.slices_end.Goals as goal
+
+pub returns : goal.returns
+returns c = slices_end

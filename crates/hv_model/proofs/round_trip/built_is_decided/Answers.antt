@@ -1,0 +1,5 @@
+use Rattle.hv_model.proofs.RoundTrip.{built_decided}
+use Rattle.hv_model.proofs.round_trip.built_is_decided.Goals as goal
+
+pub returns : goal.returns
+returns c = built_decided

@@ -1,0 +1,126 @@
+-- Decoding (clauses 7 to 9 and Annex B): the pictures that a byte stream shows, in output order; none where it isn't a
+-- stream of this profile. So far each picture is an IDR picture of one coding tree unit with a blank tree.
+use Rattle.std.specs.Prelude.{ℕ, ◌+◌, ◌-◌, ◌*◌, ◌%◌, Bool, false, cond, not, nat_eq, nat_lt, nat_le, ◌&&◌, ◌||◌, List, [], ◌∷◌, length, take, drop, filter, replicate, Option, Some, None, option_and_then, option_map}
+use Rattle.std.specs.List.{list_all}
+use Rattle.hv_types.specs.declared.bins.SliceKind.TheVariants.{I}
+use Rattle.hv_types.specs.declared.picture.Picture.{Picture}
+use Rattle.hv_types.specs.Video.{crop}
+use Rattle.hv_model.specs.Bits.{bits_of}
+use Rattle.hv_model.specs.Fields.{HeaderScript, read_header}
+use Rattle.hv_model.specs.Units.{NalUnit, units_of, is_zero, same_bytes, last_of}
+use Rattle.hv_model.specs.Headers.{Size, read_vps, read_sps, read_pps, read_idr_slice}
+use Rattle.hv_model.specs.Oracle.{Oracle, begin, read, bits_left}
+use Rattle.hv_model.specs.Trees.{CodingTreeUnit}
+use Rattle.hv_model.specs.BlockSyntax.{coding_tree_unit}
+use Rattle.hv_model.specs.Reconstruction.{unfiltered}
+use Rattle.hv_model.specs.Deblocking.{deblocked}
+use Rattle.hv_model.specs.SampleAdaptiveOffset.{shown}
+
+-- ---- parameter sets
+
+-- rbsp_trailing_bits (7.3.2.11): a one and at most seven zeros
+abbrev pub is_trailing : List ℕ → Bool
+is_trailing [] = false
+is_trailing (bit ∷ bits) = nat_eq bit 1 && list_all is_zero bits && nat_lt (length bits) 8
+
+abbrev pub if_trailing : {A : Type 0} → Option (A × List ℕ) → Option A
+if_trailing None = None
+if_trailing (Some r) = cond (is_trailing r.1) (Some r.0) None
+
+abbrev pub parameters : {A : Type 0} → HeaderScript A → NalUnit → Option A
+parameters script unit = if_trailing (read_header script (bits_of unit.payload))
+
+-- a unit of this type, of the base layer and the lowest sub-layer
+abbrev pub has_type : ℕ → NalUnit → Bool
+has_type nal_unit_type unit =
+    nat_eq unit.nal_unit_type nal_unit_type && nat_eq unit.nuh_layer_id 0 && nat_eq unit.TemporalId 0
+
+-- ---- a slice
+
+-- byte_alignment (7.3.2.12): the bits behind it
+abbrev pub behind_alignment : List ℕ → Option (List ℕ)
+behind_alignment bits =
+    let n = (length bits + 7) % 8 + 1 in
+    cond (same_bytes (take n bits) (1 ∷ replicate (n - 1) 0)) (Some (drop n bits)) None
+
+-- the slice data ended with a bit 1, and with it the payload but for zeros to the byte
+abbrev pub is_slice_end : List ℕ → List ℕ → Bool
+is_slice_end bits left =
+    nat_eq (last_of (take (length bits - length left) bits)) 1 &&
+    list_all is_zero left &&
+    nat_lt (length left) 8
+
+abbrev pub if_ended : List ℕ → Option (CodingTreeUnit × Oracle) → Option CodingTreeUnit
+if_ended bits None = None
+if_ended bits (Some r) =
+    cond (r.0.end_of_slice_segment_flag && is_slice_end bits (bits_left r.1)) (Some r.0) None
+
+-- slice_segment_data (7.3.8.1) of one coding tree unit
+abbrev pub slice_data : ℕ → List ℕ → Option CodingTreeUnit
+slice_data qp bits =
+    if_ended bits (option_and_then (λ oracle. read coding_tree_unit oracle) (begin bits I qp))
+
+-- the picture is one coding tree block
+abbrev pub is_one_block : Size → Bool
+is_one_block size =
+    nat_eq size.pic_width_in_luma_samples 64 && nat_eq size.pic_height_in_luma_samples 64
+
+-- what is shown of the picture, cropped by the conformance window
+abbrev pub picture_shown : Size → CodingTreeUnit → Picture
+picture_shown size unit =
+    let width = size.pic_width_in_luma_samples in
+    let height = size.pic_height_in_luma_samples in
+    crop (shown (deblocked (unfiltered width height (unit.tree ∷ []))) (unit.sao ∷ []))
+    (width - 2 * size.conf_win_right_offset) (height - 2 * size.conf_win_bottom_offset)
+
+abbrev pub slice_after_header : Size → Option (ℕ × List ℕ) → Option Picture
+slice_after_header size None = None
+slice_after_header size (Some header) =
+    option_map (picture_shown size) (option_and_then (slice_data header.0) (behind_alignment header.1))
+
+-- an IDR picture: a unit of type IDR_N_LP with its slice
+abbrev pub picture_of_unit : Size → NalUnit → Option Picture
+picture_of_unit size unit =
+    cond (has_type 20 unit && is_one_block size)
+    (slice_after_header size (read_header read_idr_slice (bits_of unit.payload)))
+    None
+
+-- ---- the stream
+
+-- access unit delimiters, filler, SEI and reserved types say nothing of the pictures
+abbrev pub is_passed_over : NalUnit → Bool
+is_passed_over unit = nat_eq unit.nal_unit_type 35 || nat_le 38 unit.nal_unit_type
+
+abbrev pub picture_then : Option Picture → Option (List Picture) → Option (List Picture)
+picture_then None pictures = None
+picture_then (Some picture) None = None
+picture_then (Some picture) (Some pictures) = Some (picture ∷ pictures)
+
+-- each IDR picture is output before the next one: so far in the order of the stream
+abbrev pub pictures_of_units : Size → List NalUnit → Option (List Picture)
+pictures_of_units size [] = Some []
+pictures_of_units size (unit ∷ units) =
+    picture_then (picture_of_unit size unit) (pictures_of_units size units)
+
+-- VPS and SPS tell the same number of temporal levels
+abbrev pub with_parameters : Option ℕ → Option (ℕ × Size) → Option (Unit {0}) → List NalUnit → Option (List Picture)
+with_parameters None sps pps units = None
+with_parameters (Some levels) None pps units = None
+with_parameters (Some levels) (Some sps) None units = None
+with_parameters (Some levels) (Some sps) (Some pps) units =
+    cond (nat_eq levels sps.0) (pictures_of_units sps.1 units) None
+
+abbrev pub pictures_after_sets : List NalUnit → Option (List Picture)
+pictures_after_sets [] = Some []
+pictures_after_sets (vps ∷ []) = None
+pictures_after_sets (vps ∷ sps ∷ []) = None
+pictures_after_sets (vps ∷ sps ∷ pps ∷ units) =
+    cond (has_type 32 vps && has_type 33 sps && has_type 34 pps)
+    (with_parameters (parameters read_vps vps) (parameters read_sps sps) (parameters read_pps pps) units)
+    None
+
+abbrev pub decode_units : List NalUnit → Option (List Picture)
+decode_units units = pictures_after_sets (filter (λ unit. not (is_passed_over unit)) units)
+
+abbrev pub decode_of : List ℕ → Option (List Picture)
+decode_of bytes = option_and_then decode_units (units_of bytes)

@@ -1,0 +1,75 @@
+-- The one-thread encoder: the bytes that are written for a list of pictures, and the pictures that a decoder shows. So
+-- far of pictures of one coding tree block, each a group of its own, at effort 0.
+use Rattle.std.specs.Prelude.{ℕ, true, List, [], ◌∷◌, ◌++◌, map, flat_map}
+use Rattle.hv_types.specs.declared.bins.SliceKind.TheVariants.{I}
+use Rattle.hv_types.specs.declared.settings.Settings.{Settings}
+use Rattle.hv_types.specs.declared.settings.Emit.{Emit}
+use Rattle.hv_types.specs.declared.settings.Emit.TheVariants.{Stream, Recon}
+use Rattle.hv_types.specs.Configuration.{padded_width, padded_height}
+use Rattle.hv_types.specs.declared.picture.Picture.{Picture}
+use Rattle.hv_types.specs.Video.{raw, crop}
+use Rattle.hv_model.specs.Bits.{bytes_of}
+use Rattle.hv_model.specs.Fields.{Field, bits_of_fields, aligned}
+use Rattle.hv_model.specs.Units.{unit_bytes}
+use Rattle.hv_model.specs.Headers.{vps, sps, pps, idr_slice, size_of}
+use Rattle.hv_model.specs.Structure.{qp_at}
+use Rattle.hv_model.specs.Trees.{Off, CodingTreeUnit}
+use Rattle.hv_model.specs.Bins.{bins}
+use Rattle.hv_model.specs.CodeWord.{word}
+use Rattle.hv_model.specs.ModeDecision.{best}
+use Rattle.hv_model.specs.Reconstruction.{unfiltered}
+use Rattle.hv_model.specs.Deblocking.{deblocked}
+use Rattle.hv_model.specs.SampleAdaptiveOffset.{shown}
+
+-- a unit of the base layer and the lowest sub-layer, with its start code
+abbrev pub unit_of_payload : ℕ → List ℕ → List ℕ
+unit_of_payload nal_unit_type payload =
+    unit_bytes (record { nal_unit_type = nal_unit_type; nuh_layer_id = 0; TemporalId = 0; payload = payload })
+
+-- a parameter set, with its trailing bits
+abbrev pub parameter_set : ℕ → List Field → List ℕ
+parameter_set nal_unit_type fields = unit_of_payload nal_unit_type (bytes_of (aligned (bits_of_fields fields)))
+
+-- VPS, SPS and PPS
+abbrev pub parameter_sets : Settings → List ℕ
+parameter_sets cfg =
+    parameter_set 32 (vps cfg.levels) ++ parameter_set 33 (sps cfg.levels (size_of cfg)) ++ parameter_set 34 pps
+
+-- ---- a picture
+
+-- the coding tree unit of a picture of one
+abbrev pub coded_unit : CodingTreeUnit
+coded_unit = record { sao = Off; tree = best; end_of_slice_segment_flag = true }
+
+-- the slice of an IDR picture: its header, a byte_alignment, and the code word with zeros to the byte
+abbrev pub slice_payload : ℕ → List ℕ
+slice_payload qp = bytes_of (aligned (bits_of_fields (idr_slice qp)) ++ word I qp (bins coded_unit))
+
+-- an IDR picture has depth 0
+abbrev pub picture_unit : Settings → Picture → List ℕ
+picture_unit cfg picture = unit_of_payload 20 (slice_payload (qp_at cfg.qp 0))
+
+-- what a decoder shows of it, before it is cropped
+abbrev pub picture_shown : Settings → Picture → Picture
+picture_shown cfg picture =
+    shown (deblocked (unfiltered (padded_width cfg) (padded_height cfg) (coded_unit.tree ∷ []))) (coded_unit.sao ∷ [])
+
+-- ---- a video
+
+-- the byte stream: nothing for no pictures
+abbrev pub encode_of : Settings → List Picture → List ℕ
+encode_of cfg [] = []
+encode_of cfg (picture ∷ pictures) =
+    parameter_sets cfg ++ flat_map (picture_unit cfg) (picture ∷ pictures)
+
+-- the reconstructed pictures, cropped, in output order
+abbrev pub recon_of : Settings → List Picture → List Picture
+recon_of cfg pictures = map (λ picture. crop (picture_shown cfg picture) cfg.width cfg.height) pictures
+
+abbrev pub output_as : Emit → Settings → List Picture → List ℕ
+output_as Stream cfg pictures = encode_of cfg pictures
+output_as Recon cfg pictures = flat_map raw (recon_of cfg pictures)
+
+-- what is written out
+abbrev pub output : Settings → List Picture → List ℕ
+output cfg pictures = output_as cfg.emit cfg pictures

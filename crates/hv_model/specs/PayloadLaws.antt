@@ -1,0 +1,66 @@
+-- What is read of a payload is what it was made with.
+use Rattle.std.specs.Prelude.{◌≡◌, ◌≢◌, ℕ, ◌-◌, ◌%◌, ◌<◌, ◌≤◌, true, List, ◌++◌, length, replicate, Some}
+use Rattle.hv_types.specs.declared.bins.SliceKind.TheVariants.{I}
+use Rattle.hv_model.specs.Bits.{bits_of, bytes_of}
+use Rattle.hv_model.specs.BitLaws.{AreBits}
+use Rattle.hv_model.specs.Scripts.{Reads}
+use Rattle.hv_model.specs.Fields.{Field, AllCodable, bits_of_fields, HeaderScript, padding_of, aligned}
+use Rattle.hv_model.specs.Units.{NalUnit, last_of}
+use Rattle.hv_model.specs.Headers.{Size, idr_slice}
+use Rattle.hv_model.specs.CodeWord.{word}
+use Rattle.hv_model.specs.Trees.{CodingTreeUnit}
+use Rattle.hv_model.specs.Bins.{IsValid, bins}
+use Rattle.hv_model.specs.Decoding.{parameters, behind_alignment, slice_data, has_type, is_one_block, picture_shown, picture_of_unit}
+
+-- the bits of fields, and of those behind them
+abbrev pub JoinedFieldsHaveJoinedBits : Type 0
+JoinedFieldsHaveJoinedBits =
+    (fields others : List Field) →
+    bits_of_fields (fields ++ others) ≡ bits_of_fields fields ++ bits_of_fields others
+
+-- the zeros from so many bits to the byte
+abbrev pub missing : ℕ → ℕ
+missing length_so_far = (8 - length_so_far % 8) % 8
+
+-- the bits of the bytes that any bits make: zeros to the byte follow them
+abbrev pub BitsComeBackFilled : Type 0
+BitsComeBackFilled =
+    (bits : List ℕ) → AreBits bits →
+    bits_of (bytes_of bits) ≡ bits ++ replicate (missing (length bits)) 0
+
+-- a parameter set (7.3.2), from its fields and their trailing bits
+abbrev pub ParametersAreRead : Type 0 → Type 0
+ParametersAreRead A =
+    (script : HeaderScript A) (fields : List Field) (value : A) (unit : NalUnit) →
+    Reads script fields value → AllCodable fields →
+    unit.payload ≡ bytes_of (aligned (bits_of_fields fields)) →
+    parameters script unit ≡ Some value
+
+-- byte_alignment (7.3.2.12) behind so many bits, and whole bytes behind it
+abbrev pub AlignmentIsRead : Type 0
+AlignmentIsRead =
+    (before : ℕ) (bits : List ℕ) → length bits % 8 ≡ 0 →
+    behind_alignment (padding_of before ++ bits) ≡ Some bits
+
+-- slice_segment_data (7.3.8.1) of one coding tree unit, from its code word and zeros to the byte
+abbrev pub SliceDataIsRead : Type 0
+SliceDataIsRead =
+    (qp zeros : ℕ) (unit : CodingTreeUnit) → IsValid unit.tree →
+    unit.end_of_slice_segment_flag ≡ true → zeros < 8 →
+    slice_data qp (word I qp (bins unit) ++ replicate zeros 0) ≡ Some unit
+
+-- the payload of a slice of one coding tree unit
+abbrev pub slice_of : ℕ → CodingTreeUnit → List ℕ
+slice_of qp unit = bytes_of (aligned (bits_of_fields (idr_slice qp)) ++ word I qp (bins unit))
+
+-- the picture of a unit with such a payload
+abbrev pub SlicesAreRead : Type 0
+SlicesAreRead =
+    (size : Size) (qp : ℕ) (unit : CodingTreeUnit) (nal : NalUnit) →
+    IsValid unit.tree → unit.end_of_slice_segment_flag ≡ true → qp ≤ 51 → is_one_block size ≡ true →
+    has_type 20 nal ≡ true → nal.payload ≡ slice_of qp unit →
+    picture_of_unit size nal ≡ Some (picture_shown size unit)
+
+-- its last byte isn't 0
+abbrev pub SlicesEnd : Type 0
+SlicesEnd = (qp : ℕ) (unit : CodingTreeUnit) → last_of (slice_of qp unit) ≢ 0

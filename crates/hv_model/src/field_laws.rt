@@ -1,0 +1,18 @@
+// What is written as the bits of fields is read back exactly.
+ghost use Rattle.hv_model.specs.FieldLaws.{FieldsAreReadBack, AlignedBitsAreWhole, AlignedBytesEnd};
+
+/// What a script reads where fields answer it that their descriptors can code (7.2, 9.2), it reads
+/// from the bits of these fields, and the bits that follow are left.
+pub fn fields_are_read_back<A>()
+    ensures { FieldsAreReadBack A }
+{}
+
+/// Bits with their alignment (7.3.2.11, 7.3.2.12) are a whole number of bytes.
+pub fn aligned_bits_are_whole()
+    ensures { AlignedBitsAreWhole }
+{}
+
+/// The bytes of bits with their alignment end in a byte other than 0, as a payload has to (7.4.2).
+pub fn aligned_bytes_end()
+    ensures { AlignedBytesEnd }
+{}

@@ -1,0 +1,54 @@
+// What is read of a header is what its table was made with.
+ghost use Rattle.hv_model.specs.HeaderLaws.{SignedComesBack, SizesAreAllowed, VideoParametersAreRead, SequenceParametersAreRead, PictureParametersAreRead, SliceHeadersAreRead, VideoParametersAreCodable, SequenceParametersAreCodable, PictureParametersAreCodable, SliceHeadersAreCodable};
+
+/// The signed number of a codeNum (9.2.2) is the one whose codeNum it is.
+pub fn signed_comes_back()
+    ensures { SignedComesBack }
+{}
+
+/// The padded size of settings without a fault, with what is cropped of it, is one of this profile.
+pub fn sizes_are_allowed()
+    ensures { SizesAreAllowed }
+{}
+
+/// The script of a video parameter set (7.3.2.1) reads the number of temporal levels from its
+/// fields.
+pub fn video_parameters_are_read()
+    ensures { VideoParametersAreRead }
+{}
+
+/// The script of a sequence parameter set (7.3.2.2) reads the number of temporal levels and the
+/// size from its fields.
+pub fn sequence_parameters_are_read()
+    ensures { SequenceParametersAreRead }
+{}
+
+/// The script of a picture parameter set (7.3.2.3) takes its fields.
+pub fn picture_parameters_are_read()
+    ensures { PictureParametersAreRead }
+{}
+
+/// The script of an IDR picture's slice header (7.3.6.1) reads the quantiser from its fields.
+pub fn slice_headers_are_read()
+    ensures { SliceHeadersAreRead }
+{}
+
+/// The descriptors of a video parameter set can code its values.
+pub fn video_parameters_are_codable()
+    ensures { VideoParametersAreCodable }
+{}
+
+/// The descriptors of a sequence parameter set can code its values.
+pub fn sequence_parameters_are_codable()
+    ensures { SequenceParametersAreCodable }
+{}
+
+/// The descriptors of a picture parameter set can code its values.
+pub fn picture_parameters_are_codable()
+    ensures { PictureParametersAreCodable }
+{}
+
+/// The descriptors of an IDR picture's slice header can code its values.
+pub fn slice_headers_are_codable()
+    ensures { SliceHeadersAreCodable }
+{}

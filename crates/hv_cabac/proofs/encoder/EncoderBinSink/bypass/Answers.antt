@@ -1,0 +1,13 @@
+use Rattle.std.proofs.Common.{refl}
+use Rattle.hv_types.specs.Bins.{Bypass}
+use Rattle.hv_cabac.proofs.Standing.{stands_more}
+use Rattle.hv_cabac.proofs.encoder.EncoderBinSink.bypass.Goals as goal
+
+pub returns : goal.returns
+returns c = λ kind qp before stood.
+    let old = c.args.self.now.register in
+    record {
+      stands =
+          stands_more old _ _ _ kind qp before Bypass c.args.value refl stood.stands c.halve.ensures
+          refl;
+    }

@@ -1,0 +1,16 @@
+use Rattle.std.proofs.Common.{◌≡◌, ℕ, ◌+◌, ◌*◌, ◌%◌, Bool, true, false, cond, refl, ap, ◌∙◌, get_or}
+use mir.Val.{bool_byte}
+use Rattle.hv_cabac.specs.Variables.{variable_of}
+use Rattle.hv_cabac.proofs.NextStates.{next_states}
+use Rattle.hv_cabac.proofs.States.{next_at}
+use Rattle.hv_cabac.proofs.tables.next_state.Goals as goal
+
+byte_of : (v : Bool) → bool_byte v ≡ cond v 1 0
+byte_of true = refl
+byte_of false = refl
+
+pub returns : goal.returns
+returns c =
+    let e : c.from.result * 2 + c.from-2.result ≡ c.args.state % 128 * 2 + cond c.args.value 1 0 =
+    rw (c.from.ensures, c.from-2.ensures, byte_of c.args.value) refl in
+    ap (λ (i : ℕ). variable_of (get_or next_states i 0)) e ∙ next_at c.args.state c.args.value

@@ -1,0 +1,4 @@
+mod Putting
+mod Reading
+mod Escaping
+pub mod WritingLaws

@@ -1,0 +1,4 @@
+use Rattle.hv_plain.proofs.bits.+doublings.Given as goal
+
+abbrev pub decreases-doublings : goal.decreases-doublings
+decreases-doublings l = l.fuel

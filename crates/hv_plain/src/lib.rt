@@ -1,0 +1,23 @@
+//! Plain, slow programs for tests, each with a definition of H.265 as its contract: the arithmetic
+//! decoder bin by bin, the interval of the arithmetic coder, whose low end is never cut, emulation
+//! prevention, and the bits of fields. What a faster program writes is read here, or compared.
+#![tactic(auto)]
+
+mod bits;
+mod contexts;
+mod digits;
+mod escaping;
+mod fields;
+mod interval;
+mod reader;
+mod tables;
+#[cfg(test)]
+mod tests;
+mod variables;
+
+pub use contexts::variable_at;
+pub use escaping::escape;
+pub use fields::{Field, bits_of_fields, field_bits};
+pub use interval::PlainInterval;
+pub use reader::{Ended, Reader, adapted};
+pub use variables::{Variable, first_variables};

@@ -1,0 +1,58 @@
+-- What the operations on lanes give, as plain lists.
+use Rattle.std.proofs.Common.{◌≡◌, ℕ, ◌+◌, ◌-◌, ◌*◌, ◌%◌, ◌^◌, ◌<◌, ◌≤◌, List, [], ◌∷◌, Fits, nat_lt, refl, arith, w8, w32, length}
+use mathlib.Core.Bool.{cond}
+use mathlib.Core.List.{map}
+use Rattle.std.specs.Int.{abs_diff}
+use Rattle.std.specs.Simd.Lanes.{zip2, Each1, Each2, sel_l, sum_l}
+use Rattle.std.proofs.lemmas.Simd.{sum_bound, bytes_below}
+use Rattle.hv_kernel.specs.Differences.{sum_of_pairs, squared_difference}
+
+-- `abs_diff` of two bytes chooses which difference to take, so that none wraps
+pub gap_lane : (x y : ℕ) → x < 256 → y < 256 → (cond (nat_lt x y) y x + (2 ^ 8 - cond (nat_lt x y) x y)) % 2 ^ 8 ≡ abs_diff x y
+gap_lane x y p q = grind arith
+
+pub gap_lanes : (xs ys : List ℕ) → Each1 (Fits w8) xs → Each1 (Fits w8) ys → zip2 (λ a b. (a + (2 ^ 8 - b)) % 2 ^ 8) (sel_l (zip2 nat_lt xs ys) ys xs) (sel_l (zip2 nat_lt xs ys) xs ys) ≡ zip2 abs_diff xs ys
+gap_lanes [] ys p q = refl
+gap_lanes (x ∷ xs) [] p q = refl
+gap_lanes (x ∷ xs) (y ∷ ys) p q = rw (gap_lane x y p.0.fits q.0.fits, gap_lanes xs ys p.1 q.1) refl
+
+-- a cast that widens leaves each lane
+pub map_same : (xs : List ℕ) → map (λ x. x) xs ≡ xs
+map_same [] = refl
+map_same (x ∷ xs) = rw (map_same xs) refl
+
+-- n bytes sum to 255 n at most
+pub sum_of_bytes : (xs : List ℕ) (n : ℕ) → length xs ≡ n → Each1 (Fits w8) xs → sum_l xs ≤ 255 * n
+sum_of_bytes xs n e h = rw (← e) (sum_bound 255 xs (bytes_below xs h))
+
+square_of_byte : (x : ℕ) → x < 256 → x * x ≤ 65025
+square_of_byte x h = grind arith
+
+-- the square of a byte fits 32 bits
+pub squares_fit : (xs : List ℕ) → Each1 (Fits w8) xs → Each2 (λ a b. Fits w32 (a * b)) xs xs
+squares_fit [] h = tt
+squares_fit (x ∷ xs) h = (record { fits = omega (arith, square_of_byte x h.0.fits) }, squares_fit xs h.1)
+
+squares_below : (xs : List ℕ) → Each1 (Fits w8) xs → Each1 (λ a. a ≤ 65025) (zip2 (λ x y. x * y) xs xs)
+squares_below [] h = tt
+squares_below (x ∷ xs) h = (square_of_byte x h.0.fits, squares_below xs h.1)
+
+length_of_squares : (xs : List ℕ) → length (zip2 (λ (x y : ℕ). x * y) xs xs) ≡ length xs
+length_of_squares [] = refl
+length_of_squares (x ∷ xs) = rw (length_of_squares xs) refl
+
+-- the squares of n bytes sum to 65025 n at most
+pub sum_of_squares : (xs : List ℕ) (n : ℕ) → length xs ≡ n → Each1 (Fits w8) xs → sum_l (zip2 (λ x y. x * y) xs xs) ≤ 65025 * n
+sum_of_squares xs n e h = rw (← e, ← length_of_squares xs) (sum_bound 65025 (zip2 (λ x y. x * y) xs xs) (squares_below xs h))
+
+-- a number for each pair of lanes, summed
+pub sum_of_measures : (measure : ℕ → ℕ → ℕ) (xs ys : List ℕ) → sum_l (zip2 measure xs ys) ≡ sum_of_pairs measure xs ys
+sum_of_measures measure [] ys = refl
+sum_of_measures measure (x ∷ xs) [] = refl
+sum_of_measures measure (x ∷ xs) (y ∷ ys) = rw (sum_of_measures measure xs ys) refl
+
+-- the squares of the differences, summed
+pub sum_of_squared_gaps : (xs ys : List ℕ) → sum_l (zip2 (λ x y. x * y) (zip2 abs_diff xs ys) (zip2 abs_diff xs ys)) ≡ sum_of_pairs squared_difference xs ys
+sum_of_squared_gaps [] ys = refl
+sum_of_squared_gaps (x ∷ xs) [] = refl
+sum_of_squared_gaps (x ∷ xs) (y ∷ ys) = rw (sum_of_squared_gaps xs ys) refl

@@ -1,0 +1,5 @@
+pub mod FourLemmas
+pub mod LaneLemmas
+pub mod PairLemmas
+pub mod RowLemmas
+mod WorkedSums

@@ -1,0 +1,18 @@
+//! Sums of differences of samples, in lanes: what motion search and mode decision compare blocks
+//! by. No call takes memory, and each equals the plain sum that its clause names.
+#![tactic(auto)]
+
+mod blocks;
+mod lanes;
+mod quarter;
+mod rows;
+mod sums;
+#[cfg(test)]
+mod tests;
+
+pub use blocks::{
+    sad_block_8, sad_block_16, sad_block_32, sad_block_64, ssd_block_8, ssd_block_16, ssd_block_32,
+    ssd_block_64,
+};
+pub use quarter::decimate;
+pub use sums::{sad, ssd};

@@ -1,0 +1,103 @@
+//! Runs a kernel many times over noise, and prints a checksum of what it gave.
+//! `hv_speed KERNEL ROUNDS`: the name of a kernel, or `all`, and how many rounds. A round is 64
+//! calls of a kernel of pictures, and one call of a kernel of bits.
+#![tactic(auto)]
+
+mod bits;
+mod kernel;
+mod pictures;
+mod streams;
+
+use anyhow::bail;
+use bits::BitKernel;
+use hv_types::NoMemory;
+use kernel::Kernel;
+use pictures::Pictures;
+use std::alloc::Global;
+use std::env;
+use std::io::Print;
+use streams::Streams;
+
+const CALLS: usize = 64;
+
+/// The sum of what `rounds` rounds of calls gave, modulo 2^64.
+fn checksum(kernel: Kernel, rounds: u32, pictures: &mut Pictures) -> u64 {
+    let mut sum = 0u64;
+    for round in 0..rounds {
+        for place in 0..CALLS {
+            sum = sum.wrapping_add(kernel.run(pictures, place, round));
+        }
+    }
+    sum
+}
+
+/// Prints a line for each kernel: its name and its checksum.
+fn print_checksums(
+    rt: &impl Print,
+    alloc: Global,
+    kernels: &[Kernel],
+    rounds: u32,
+) -> anyhow::Result<()> {
+    let mut pictures = Pictures::new(alloc)?;
+    for kernel in kernels {
+        let sum = checksum(*kernel, rounds, &mut pictures);
+        let name = kernel.name();
+        println!(rt; "{name} {sum}")?;
+    }
+    Ok(())
+}
+
+/// The sum of what `rounds` calls gave, modulo 2^64.
+fn checksum_of_bits(
+    alloc: Global,
+    kernel: BitKernel,
+    rounds: u32,
+    streams: &Streams,
+) -> Result<u64, NoMemory> {
+    let mut sum = 0u64;
+    for _ in 0..rounds {
+        sum = sum.wrapping_add(kernel.run(alloc, streams)?);
+    }
+    Ok(sum)
+}
+
+/// As `print_checksums`, for kernels of bits.
+fn print_checksums_of_bits(
+    rt: &impl Print,
+    alloc: Global,
+    kernels: &[BitKernel],
+    rounds: u32,
+) -> anyhow::Result<()> {
+    let Ok(streams) = Streams::new(alloc) else {
+        bail!("not enough memory");
+    };
+    for kernel in kernels {
+        let Ok(sum) = checksum_of_bits(alloc, *kernel, rounds, &streams) else {
+            bail!("not enough memory");
+        };
+        let name = kernel.name();
+        println!(rt; "{name} {sum}")?;
+    }
+    Ok(())
+}
+
+fn main(rt: HostRuntime) -> anyhow::Result<()> {
+    let mut words = env::args(&rt)?.skip(1);
+    let (Some(name), Some(rounds)) = (words.next(), words.next()) else {
+        bail!("usage: hv_speed KERNEL ROUNDS");
+    };
+    let Ok(rounds) = rounds.parse::<u32>() else {
+        bail!("the number of rounds is no number");
+    };
+    if name.as_str() == "all" {
+        print_checksums(&rt, rt.alloc(), &Kernel::ALL, rounds)?;
+        return print_checksums_of_bits(&rt, rt.alloc(), &BitKernel::ALL, rounds);
+    }
+    if let Some(kernel) = BitKernel::named(name.as_str()) {
+        return print_checksums_of_bits(&rt, rt.alloc(), &[kernel], rounds);
+    }
+    match Kernel::named(name.as_str()) {
+        Some(kernel) => print_checksums(&rt, rt.alloc(), &[kernel], rounds),
+        None => bail!("no kernel has this name"),
+    }
+}

@@ -1,0 +1,5 @@
+pub mod CommandLine
+pub mod Transfers
+pub mod HeaderTables
+pub mod Outcomes
+pub mod Endings

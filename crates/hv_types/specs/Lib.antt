@@ -3,7 +3,9 @@ pub mod Configuration
 pub mod GroupInput
 pub mod Memory
 pub mod Outside
+pub mod OutsideLaws
 pub mod Samples
+pub mod SettingsLaws
 pub mod Video
 pub mod VideoLaws
 pub mod Standard

@@ -2,8 +2,13 @@
 use Rattle.std.specs.Prelude.{◌≡◌, ℕ, ◌<◌, ◌≤◌, List, ◌++◌, length, take, All}
 use Rattle.std.specs.List.{flat_map}
 use Rattle.hv_types.specs.Configuration.{picture_bytes_of}
+use Rattle.hv_types.specs.Samples.{tabulate}
 use Rattle.hv_types.specs.Video.{IsPicture, HasBytes, raw, picture_of, pictures, rest, padded_side, pad, crop}
 use Rattle.hv_types.specs.declared.picture.Picture.{Picture}
+
+-- as many values as are asked
+abbrev pub TabulateCounts : Type 0 → Type 0
+TabulateCounts A = (n : ℕ) (f : ℕ → A) → length (tabulate n f) ≡ n
 
 -- what is shown of a padded picture is the picture
 abbrev pub CropUndoesPad : Type 0

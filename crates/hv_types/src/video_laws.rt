@@ -1,6 +1,6 @@
 // What holds of padding, of cropping, and of pictures in a row of bytes. No function here does
 // anything: each contract names a law, which is thereby proved.
-ghost use Rattle.hv_types.specs.VideoLaws.{CropUndoesPad, PadGivesPicture, CountsRaw, FrontIsPicture, PicturesReadBack, BytesAreSplit, KeepBytes};
+ghost use Rattle.hv_types.specs.VideoLaws.{TabulateCounts, CropUndoesPad, PadGivesPicture, CountsRaw, FrontIsPicture, PicturesReadBack, BytesAreSplit, KeepBytes};
 
 /// What is shown of a padded picture is the picture.
 pub fn crop_pad_law()
@@ -36,4 +36,9 @@ pub fn split_law()
 /// Pictures of bytes keep samples of 0 to 255 when they are read, padded, cropped or written.
 pub fn bytes_law()
     ensures { KeepBytes }
+{}
+
+/// A table of n values has n of them.
+pub fn tabulate_law<A>()
+    ensures { TabulateCounts A }
 {}

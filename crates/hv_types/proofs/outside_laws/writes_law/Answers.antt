@@ -1,0 +1,5 @@
+use Rattle.hv_types.proofs.OutsideLaws.{writes_joined}
+use Rattle.hv_types.proofs.outside_laws.writes_law.Goals as goal
+
+pub returns : goal.returns
+returns c = writes_joined

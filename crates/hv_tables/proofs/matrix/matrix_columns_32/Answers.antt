@@ -1,0 +1,7 @@
+use Rattle.std.proofs.Common.{refl}
+use Rattle.hv_tables.specs.TransformMatrix.{transMatrix}
+use Rattle.hv_tables.proofs.Computed.{entries_are}
+use Rattle.hv_tables.proofs.matrix.matrix_columns_32.Goals as goal
+
+pub returns : goal.returns
+returns c = entries_are 32 _ (λ n k. transMatrix 5 k n) refl

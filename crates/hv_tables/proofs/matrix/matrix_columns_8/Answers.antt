@@ -1,0 +1,7 @@
+use Rattle.std.proofs.Common.{refl}
+use Rattle.hv_tables.specs.TransformMatrix.{transMatrix}
+use Rattle.hv_tables.proofs.Computed.{entries_are}
+use Rattle.hv_tables.proofs.matrix.matrix_columns_8.Goals as goal
+
+pub returns : goal.returns
+returns c = entries_are 8 _ (λ n k. transMatrix 3 k n) refl

@@ -1,0 +1,4 @@
+pub mod TransformMatrix
+pub mod Angles
+pub mod Quantisers
+pub mod Tables

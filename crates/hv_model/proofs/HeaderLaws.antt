@@ -7,11 +7,11 @@ use Rattle.std.proofs.lemmas.Int.{ints}
 use Rattle.std.specs.List.{list_all}
 use Rattle.std.proofs.lemmas.Bool.{ltb-true, and_parts}
 use Rattle.std.specs.Int.{is_negative}
-use Rattle.hv_model.specs.Scripts.{Done, only_if, ◌>>=◌, Reads, nothing, one}
+use Rattle.hv_model.specs.Scripts.{Done, ◌>>=◌, Reads, nothing, one}
 use Rattle.hv_model.specs.Fields.{Descriptor, U, Ue, Field, Codes, AllCodable, u, ue, se, code_num, signed_of, HeaderScript}
 use Rattle.hv_model.specs.Headers.{ordering, vps_start, vps_end, sps_start, sps_depths, sps_end, Size, is_cropped, window, size_fields, pps, idr_start, qp_delta, fixed, free, read_ordering, is_side, read_offsets, read_window, read_size, read_sps, qp_from}
 use Rattle.hv_model.specs.HeaderLaws.{SignedComesBack, IsAllowed, SizesAreAllowed, VideoParametersAreRead, SequenceParametersAreRead, PictureParametersAreRead, SliceHeadersAreRead, VideoParametersAreCodable, SequenceParametersAreCodable, PictureParametersAreCodable, SliceHeadersAreCodable}
-use Rattle.hv_model.proofs.ScriptLaws.{reads_then, reads_map}
+use Rattle.hv_model.proofs.ScriptLaws.{reads_then, reads_map, where_true}
 
 -- ---- parts
 
@@ -20,7 +20,7 @@ reads_fixed [] = nothing
 reads_fixed (field ∷ fields) = one (rw (eq-eqb field.value field.value refl) (reads_fixed fields))
 
 -- fields that are fixed, and then a script
-fixed_then : {A : Type 0} {script : HeaderScript A} {rest : List Field} {a : A}
+pub fixed_then : {A : Type 0} {script : HeaderScript A} {rest : List Field} {a : A}
     (fields : List Field) →
     Reads script rest a → Reads (fixed fields >>= λ _. script) (fields ++ rest) a
 fixed_then {script} fields r = reads_then (λ _. script) (reads_fixed fields) r
@@ -31,12 +31,6 @@ free_then : {A : Type 0} {rest : List Field} {a : A} (descriptor : Descriptor) (
     Reads (script value) rest a →
     Reads (free descriptor >>= script) (record { question = descriptor; value = value } ∷ rest) a
 free_then descriptor value script r = one r
-
--- where a test is true
-where_true : {A : Type 0} {script : HeaderScript A} {fields : List Field} {a : A} (test : Bool) →
-    test ≡ true →
-    Reads script fields a → Reads (only_if test script) fields a
-where_true test e r = rw e r
 
 reads_ordering : (levels : ℕ) → levels ≤ 3 → Reads read_ordering (ordering levels) levels
 reads_ordering levels h =
@@ -178,7 +172,7 @@ signed_back (pos zero) = refl
 signed_back (pos (suc k)) = odd_code (2 * suc k - 1) k (omega arith)
 signed_back (negsuc k) = even_code (2 * k + 2) (suc k) (omega arith)
 
-reads_qp : (code qp : ℕ) → (pos 26 +ℤ signed_of code) ≡ pos qp → qp ≤ 51 →
+pub reads_qp : (code qp : ℕ) → (pos 26 +ℤ signed_of code) ≡ pos qp → qp ≤ 51 →
     Reads (qp_from code) [] qp
 reads_qp code qp e h =
     let few : nat_le qp 51 ≡ true = le-leb qp 51 h in
@@ -287,7 +281,7 @@ codable_idr_start : AllCodable idr_start
 unfolding is_codable is_codable_as
 codable_idr_start = codable idr_start refl
 
-small_code : (z : ℤ) (qp : ℕ) → z ≡ (pos qp -ℤ pos 26) → qp ≤ 51 → code_num z < 2 ^ 64 - 1
+pub small_code : (z : ℤ) (qp : ℕ) → z ≡ (pos qp -ℤ pos 26) → qp ≤ 51 → code_num z < 2 ^ 64 - 1
 small_code (pos k) qp e h = let small : k ≤ 25 = omega (arith, ints) in omega arith
 small_code (negsuc k) qp e h = let small : k ≤ 25 = omega (arith, ints) in omega arith
 

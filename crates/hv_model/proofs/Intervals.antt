@@ -7,6 +7,7 @@ use Rattle.std.specs.List.{list_all}
 use Rattle.hv_types.specs.Bins.{Question, Context, Bypass, Terminate, Bin}
 use Rattle.hv_model.specs.ArithmeticTables.{rangeTabLps}
 use Rattle.hv_model.specs.Contexts.{ContextVariable, variable_at, lps_width, same}
+use Rattle.hv_model.specs.IntervalLaws.{IsWithin}
 use Rattle.hv_model.specs.CodeWord.{doublings, shift_of, Cut, part, cut, is_last, Interval, advance, reach, odd_from}
 
 -- ---- renormalization
@@ -60,12 +61,6 @@ lps_bounds v range =
     (ltb-true 1 x parts.0, ltb-true x 241 parts.1)
 
 -- ---- one bin
--- what is kept lies in the interval, and is as wide as before
-pub record IsWithin (range : ℕ) (c : Cut) : Type 0 where
-  pub inside : c.skip + c.width ≤ range * 2 ^ c.times
-  pub wide : 256 ≤ c.width
-  pub narrow : c.width ≤ 510
-
 part_within : (range skip w : ℕ) → 0 < w → w ≤ 510 → skip + w ≤ range →
     IsWithin range (part skip w)
 part_within range skip w p q r =

@@ -1,4 +1,7 @@
 mod WorkedWords
+mod WorkedStructure
+mod WorkedSamples
+mod WorkedSlices
 mod WorkedUnits
 pub mod WorkedStreams
 pub mod DigitLaws
@@ -15,6 +18,11 @@ pub mod BlockLaws
 pub mod PayloadLaws
 pub mod SliceLaws
 pub mod RoundTrip
+pub mod EncodingLaws
 mod Refusals
 pub mod StreamLaws
 pub mod TableProofs
+mod SliceHeaderLaws
+mod Determined
+mod Lives
+mod SliceStructures

@@ -8,8 +8,9 @@ use Rattle.hv_model.specs.Fields.{Descriptor, U, Ue, Field, code_of, log2_of, fi
 use Rattle.hv_model.specs.Units.{same_bytes, last_of}
 use Rattle.hv_model.specs.Decoding.{is_trailing, is_slice_end}
 use Rattle.hv_model.specs.PayloadLaws.{JoinedFieldsHaveJoinedBits, missing, BitsComeBackFilled, ParametersAreRead, AlignmentIsRead}
-use Rattle.hv_model.proofs.SmallFacts.{zeros, length-zeros, zeros_zeros, AreBits-zeros, all_zero, same_as_itself, last_of_push}
-use Rattle.hv_model.proofs.FieldLaws.{length-aligned, fields_read_back}
+use Rattle.hv_model.proofs.SmallFacts.{zeros, length-zeros, zeros_zeros, AreBits-zeros, all_zero}
+use Rattle.hv_model.proofs.FieldLaws.{length-aligned, last_of-append, fields_read_back}
+use Rattle.hv_model.proofs.UnitLaws.{same_bytes_self}
 use Rattle.hv_model.proofs.BitLaws.{AreBits-digits, AreBits-append, bits_of-bytes_of}
 
 -- ---- zeros to the byte
@@ -136,7 +137,7 @@ alignment_at m n rest e =
     let less : suc m - 1 ≡ m = omega arith in
     let front : take m (zeros m ++ rest) ≡ zeros m = take_at (zeros m) rest m (length-zeros m) in
     let behind : drop m (zeros m ++ rest) ≡ rest = drop_at (zeros m) rest m (length-zeros m) in
-    rw (e, less, front, behind, same_as_itself (1 ∷ zeros m)) refl
+    rw (e, less, front, behind, same_bytes_self (1 ∷ zeros m)) refl
 
 pub alignment-back : AlignmentIsRead
 alignment-back n rest e =
@@ -155,7 +156,7 @@ slice_end a m h =
     let long : length (code ++ tail) - length tail ≡ length code =
     omega (arith, length-append code tail) in
     let front : take (length code) (code ++ tail) ≡ code = take_at code tail (length code) refl in
-    let last : nat_eq (last_of code) 1 ≡ true = eq-eqb (last_of code) 1 (last_of_push a 1) in
+    let last : nat_eq (last_of code) 1 ≡ true = eq-eqb (last_of code) 1 (last_of-append a 1) in
     let few : nat_lt (length tail) 8 ≡ true =
     lt-ltb (length tail) 8 (omega (arith, length-zeros m)) in
     rw (long, front, last, all_zero m, few) refl

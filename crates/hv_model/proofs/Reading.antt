@@ -11,7 +11,8 @@ use Rattle.hv_model.specs.CodeWord.{shift_of, Cut, part, cut_at, cut, next_varia
 use Rattle.hv_model.specs.Oracle.{Decoder, read_bits, begin_decoder, renormalize, with_value, decode_decision, decode, Oracle, Coded, coded, answer, bits_left}
 use Rattle.hv_model.proofs.DigitLaws.{digits-add, with_digit}
 use Rattle.hv_model.proofs.ScriptLaws.{Gives, none, more}
-use Rattle.hv_model.proofs.Intervals.{IsWithin, cut_within, places, n-reach, number_at, odd_near, IsNested, nested}
+use Rattle.hv_model.specs.IntervalLaws.{IsWithin}
+use Rattle.hv_model.proofs.Intervals.{cut_within, places, n-reach, number_at, odd_near, IsNested, nested}
 
 -- ---- bits that the offset takes
 abbrev decoder : List ContextVariable → ℕ → ℕ → List ℕ → Decoder

@@ -8,6 +8,7 @@ use Rattle.hv_model.specs.Bits.{first_bytes}
 use Rattle.hv_model.specs.Contexts.{lps_width, next_variable, first_variables}
 use Rattle.hv_model.specs.CodeWord.{shift_of}
 use Rattle.hv_model.specs.Fields.{log2_of}
+use Rattle.hv_model.specs.Bins.{sites}
 use Rattle.hv_model.specs.Units.{NalUnit, IsUnit, IsByteStream, end, more, strip, last_of, units_of}
 use Rattle.hv_types.specs.Video.{crop}
 use Rattle.hv_model.specs.Reconstruction.{grey}
@@ -65,37 +66,37 @@ all_refused from count = list_all turned_refused (numbers count from)
 
 -- each bit of the start code, the unit header and the video parameter set
 video_parameter_set : all_refused 0 216 ≡ true
-unfolding first_bytes lps_width next_variable first_variables shift_of log2_of
+unfolding first_bytes lps_width next_variable first_variables shift_of log2_of sites
 video_parameter_set = refl
 
 -- and of the sequence parameter set
 sequence_parameter_set : all_refused 216 248 ≡ true
-unfolding first_bytes lps_width next_variable first_variables shift_of log2_of
+unfolding first_bytes lps_width next_variable first_variables shift_of log2_of sites
 sequence_parameter_set = refl
 
 -- and of the picture parameter set
 picture_parameter_set : all_refused 464 80 ≡ true
-unfolding first_bytes lps_width next_variable first_variables shift_of log2_of
+unfolding first_bytes lps_width next_variable first_variables shift_of log2_of sites
 picture_parameter_set = refl
 
 -- the start code of the slice, and the first bit of its unit header
 slice_start_code : all_refused 544 33 ≡ true
-unfolding first_bytes lps_width next_variable first_variables shift_of log2_of
+unfolding first_bytes lps_width next_variable first_variables shift_of log2_of sites
 slice_start_code = refl
 
 -- its next bit makes the slice a unit of a type that is passed over
 passed_over : decode_of (turned 577 eighty_bytes) ≡ Some []
-unfolding first_bytes lps_width next_variable first_variables shift_of log2_of
+unfolding first_bytes lps_width next_variable first_variables shift_of log2_of sites
 passed_over = refl
 
 -- the other bits of the unit header, and the slice header with its byte_alignment
 slice_header : all_refused 578 30 ≡ true
-unfolding first_bytes lps_width next_variable first_variables shift_of log2_of
+unfolding first_bytes lps_width next_variable first_variables shift_of log2_of sites
 slice_header = refl
 
 -- the code word, and the zeros behind it
 code_word : all_refused 608 32 ≡ true
-unfolding first_bytes lps_width next_variable first_variables shift_of log2_of
+unfolding first_bytes lps_width next_variable first_variables shift_of log2_of sites
 code_word = refl
 
 -- each bit but that one
@@ -127,12 +128,12 @@ turned_bit_refused i h other = refused (decode_of (turned i eighty_bytes)) (turn
 -- ---- other bytes
 
 last_byte_missing : decode_of (take 79 eighty_bytes) ≡ None
-unfolding first_bytes lps_width next_variable first_variables shift_of log2_of
+unfolding first_bytes lps_width next_variable first_variables shift_of log2_of sites
 last_byte_missing = refl
 
 bytes_behind : list_all (λ byte. is_refused (decode_of (eighty_bytes ++ byte ∷ [])))
     (numbers 255 1) ≡ true
-unfolding first_bytes lps_width next_variable first_variables shift_of log2_of
+unfolding first_bytes lps_width next_variable first_variables shift_of log2_of sites
 bytes_behind = refl
 
 -- a byte other than 0 behind them
@@ -175,7 +176,7 @@ exchanged_refused :
     (video ++ slice ++ picture ++ sequence) ∷
     (video ++ sequence ++ slice ++ picture) ∷
     []) ≡ true
-unfolding first_bytes lps_width next_variable first_variables shift_of log2_of
+unfolding first_bytes lps_width next_variable first_variables shift_of log2_of sites
 exchanged_refused = refl
 
 -- ---- zero bytes

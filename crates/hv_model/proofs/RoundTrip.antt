@@ -1,11 +1,11 @@
 -- What is written decodes to what is shown.
-use Rattle.std.proofs.Common.{◌≡◌, ℕ, ◌-◌, ◌*◌, ◌/◌, ◌<◌, ◌≤◌, Bool, true, List, [], ◌∷◌, ◌++◌, refl, ap, ap₂, ◌∙◌, arith, append_assoc, eq-eqb, le-leb}
+use Rattle.std.proofs.Common.{◌≡◌, ◌≢◌, ℕ, ◌-◌, ◌*◌, ◌/◌, ◌%◌, ◌<◌, ◌≤◌, true, List, [], ◌∷◌, ◌++◌, refl, ap, ap₂, ◌∙◌, arith, append_assoc, eq-eqb}
 use Rattle.std.proofs.lemmas.List.{length-map}
-use Rattle.std.proofs.lemmas.Bool.{and_parts, eqb-true, leb-true}
-use Rattle.std.specs.Prelude.{not, nat_eq, nat_le, ◌&&◌, map, flat_map, filter, Option, Some, option_and_then}
+use Rattle.std.proofs.lemmas.Bool.{and_parts, eqb-true}
+use Rattle.std.specs.Prelude.{not, nat_eq, map, flat_map, filter, Option, Some, option_and_then}
 use Rattle.hv_types.specs.declared.settings.Settings.{Settings}
 use Rattle.hv_types.specs.declared.picture.Picture.{Picture}
-use Rattle.hv_types.specs.Configuration.{padded_width, padded_height}
+use Rattle.hv_types.specs.Configuration.{IsValid, padded_width, padded_height}
 use Rattle.hv_types.specs.Video.{crop}
 use Rattle.hv_model.specs.Bits.{bytes_of}
 use Rattle.hv_model.specs.Fields.{Field, bits_of_fields, aligned}
@@ -14,11 +14,13 @@ use Rattle.hv_model.specs.Headers.{Size, vps, sps, pps, read_vps, read_sps, read
 use Rattle.hv_model.specs.HeaderLaws.{IsAllowed}
 use Rattle.hv_model.specs.UnitLaws.{AreUnits, stream_of}
 use Rattle.hv_model.specs.Structure.{qp_at}
+use Rattle.hv_model.specs.Bins.{Site}
 use Rattle.hv_model.specs.Encoding as encoding
-use Rattle.hv_model.specs.Decoding.{is_one_block, picture_of_unit, is_passed_over, picture_then, pictures_of_units, parameters, with_parameters, pictures_after_sets, decode_units, decode_of}
+use Rattle.hv_model.specs.Decoding.{picture_of_unit, is_passed_over, picture_then, pictures_of_units, parameters, with_parameters, pictures_after_sets, decode_units, decode_of}
 use Rattle.hv_model.specs.Built.{IsBuilt, is_built, BuiltIsDecided}
 use Rattle.hv_model.specs.RoundTrip.{DecodingGivesReconstruction, EachIsReconstructed}
-use Rattle.hv_model.proofs.HeaderLaws.{reads_vps, reads_sps, reads_pps, codable_vps, codable_sps, codable_pps}
+use Rattle.hv_model.proofs.HeaderLaws.{reads_vps, reads_sps, reads_pps, codable_vps, codable_sps, codable_pps, sizes_allowed}
+use Rattle.hv_model.proofs.BlockLaws.{coded_units_valid, sites_there}
 use Rattle.hv_model.proofs.PayloadLaws.{parameters-back}
 use Rattle.hv_model.proofs.SliceLaws.{slices_back, slices_end}
 use Rattle.hv_model.proofs.UnitLaws.{streams_read, stream_of_units}
@@ -34,7 +36,8 @@ abbrev set_unit : ℕ → List Field → NalUnit
 set_unit nal_unit_type fields = unit_with nal_unit_type (bytes_of (aligned (bits_of_fields fields)))
 
 abbrev slice_unit : Settings → Picture → NalUnit
-slice_unit cfg picture = unit_with 20 (encoding.slice_payload (qp_at cfg.qp 0))
+slice_unit cfg picture =
+    unit_with 20 (encoding.slice_payload (qp_at cfg.qp 0) (encoding.picture_sites cfg))
 
 abbrev units_after_sets : Settings → List Picture → List NalUnit
 units_after_sets cfg pictures = map (slice_unit cfg) pictures
@@ -81,7 +84,9 @@ slice_is_unit cfg picture =
       kind = omega arith;
       layer = omega arith;
       temporal = omega arith;
-      ends = slices_end (qp_at cfg.qp 0) encoding.coded_unit;
+      ends =
+          slices_end (qp_at cfg.qp 0) (encoding.picture_sites cfg)
+          (encoding.coded_units (encoding.picture_sites cfg));
     }
 
 slices_are_units : (cfg : Settings) (pictures : List Picture) →
@@ -102,26 +107,11 @@ all_units cfg (picture ∷ pictures) = (
 
 -- ---- the settings built
 
-fits : (cfg : Settings) → IsBuilt cfg → IsAllowed (size_of cfg)
-fits cfg h =
-    let width : cfg.width ≡ 64 = h.width in
-    let height : cfg.height ≡ 64 = h.height in
-    record {
-      even_width = omega arith;
-      width_least = omega arith;
-      width_most = omega arith;
-      even_height = omega arith;
-      height_least = omega arith;
-      height_most = omega arith;
-      right = omega arith;
-      bottom = omega arith;
-    }
-
-one_block : (cfg : Settings) → IsBuilt cfg → is_one_block (size_of cfg) ≡ true
-one_block cfg h =
-    let width : padded_width cfg ≡ 64 = let e = h.width in omega arith in
-    let height : padded_height cfg ≡ 64 = let e = h.height in omega arith in
-    rw (eq-eqb (padded_width cfg) 64 width, eq-eqb (padded_height cfg) 64 height) refl
+blocks_there : (cfg : Settings) → IsBuilt cfg → encoding.picture_sites cfg ≢ []
+blocks_there cfg h =
+    let wide : 8 ≤ cfg.width = h.valid.width_least in
+    let high : 8 ≤ cfg.height = h.valid.height_least in
+    sites_there (padded_width cfg) (padded_height cfg) (omega arith) (omega arith)
 
 -- ---- decoding
 
@@ -136,14 +126,16 @@ shown : (cfg : Settings) → IsBuilt cfg → (picture : Picture) →
     picture_of_unit (size_of cfg) (slice_unit cfg picture) ≡
     Some (crop (encoding.picture_shown cfg picture) cfg.width cfg.height)
 shown cfg h picture =
+    let even_width : cfg.width % 2 ≡ 0 = h.valid.even_width in
+    let even_height : cfg.height % 2 ≡ 0 = h.valid.even_height in
     let right : padded_width cfg - 2 * ((padded_width cfg - cfg.width) / 2) ≡ cfg.width =
-    let e = h.width in omega arith in
+    omega arith in
     let bottom : padded_height cfg - 2 * ((padded_height cfg - cfg.height) / 2) ≡ cfg.height =
-    let e = h.height in omega arith in
+    omega arith in
     let small : qp_at cfg.qp 0 ≤ 51 = omega arith in
-    slices_back (size_of cfg) (qp_at cfg.qp 0) encoding.coded_unit (slice_unit cfg picture)
-    refl refl small
-    (one_block cfg h) refl refl ∙
+    let places : List Site = encoding.picture_sites cfg in
+    slices_back (size_of cfg) (qp_at cfg.qp 0) (encoding.coded_units places)
+    (slice_unit cfg picture) (blocks_there cfg h) (coded_units_valid places) small refl refl ∙
     ap₂ (λ w k. Some (crop (encoding.picture_shown cfg picture) w k)) right bottom
 
 all_shown : (cfg : Settings) → IsBuilt cfg → (pictures : List Picture) →
@@ -182,13 +174,13 @@ units_decoded : (cfg : Settings) → IsBuilt cfg → (pictures : List Picture) �
     decode_units (units cfg pictures) ≡ Some (encoding.recon_of cfg pictures)
 units_decoded cfg h [] = refl
 units_decoded cfg h (picture ∷ pictures) =
-    let few : cfg.levels ≤ 3 = let e = h.levels in omega arith in
+    let few : cfg.levels ≤ 3 = h.valid.levels in
     let slices : List NalUnit = units_after_sets cfg (picture ∷ pictures) in
     ap (λ us. pictures_after_sets
     (set_unit 32 (vps cfg.levels) ∷ set_unit 33 (sps cfg.levels (size_of cfg)) ∷ set_unit 34 pps ∷
     us))
     (slices_kept cfg (picture ∷ pictures)) ∙
-    sets_read cfg few (fits cfg h) slices ∙
+    sets_read cfg few (sizes_allowed cfg h.valid) slices ∙
     all_shown cfg h (picture ∷ pictures)
 
 pub decoding_gives : DecodingGivesReconstruction
@@ -205,37 +197,17 @@ each_reconstructed cfg pictures =
 
 -- ---- the test of the settings built
 
-from_test : (s : Settings) → is_built s ≡ true → IsBuilt s
-from_test s e =
-    let width : Bool = nat_eq s.width 64 in
-    let height : Bool = nat_eq s.height 64 in
-    let levels : Bool = nat_eq s.levels 0 in
-    let group : Bool = nat_eq s.group 1 in
-    let effort : Bool = nat_eq s.effort 0 in
-    let six = and_parts (width && height && levels && group && effort) (nat_le s.qp 51) e in
-    let five = and_parts (width && height && levels && group) effort six.0 in
-    let four = and_parts (width && height && levels) group five.0 in
-    let three = and_parts (width && height) levels four.0 in
-    let two = and_parts width height three.0 in
+from_test : (s : Settings) → IsValid s → is_built s ≡ true → IsBuilt s
+from_test s valid e =
+    let both = and_parts (nat_eq s.group 1) (nat_eq s.effort 0) e in
     record {
-      width = eqb-true s.width 64 two.0;
-      height = eqb-true s.height 64 two.1;
-      levels = eqb-true s.levels 0 three.1;
-      group = eqb-true s.group 1 four.1;
-      effort = eqb-true s.effort 0 five.1;
-      qp = leb-true s.qp 51 six.1;
+      valid = valid;
+      group = eqb-true s.group 1 both.0;
+      effort = eqb-true s.effort 0 both.1;
     }
 
 to_test : (s : Settings) → IsBuilt s → is_built s ≡ true
-to_test s h =
-    rw (
-      eq-eqb s.width 64 h.width,
-      eq-eqb s.height 64 h.height,
-      eq-eqb s.levels 0 h.levels,
-      eq-eqb s.group 1 h.group,
-      eq-eqb s.effort 0 h.effort,
-      le-leb s.qp 51 h.qp,
-    ) refl
+to_test s h = rw (eq-eqb s.group 1 h.group, eq-eqb s.effort 0 h.effort) refl
 
 pub built_decided : BuiltIsDecided
-built_decided s = (from_test s, to_test s)
+built_decided s valid = (from_test s valid, to_test s)

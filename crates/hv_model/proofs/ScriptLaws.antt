@@ -1,8 +1,8 @@
 -- Laws of scripts.
-use Rattle.std.proofs.Common.{◌≡◌, List, [], ◌∷◌, ◌++◌, refl}
+use Rattle.std.proofs.Common.{◌≡◌, Bool, true, List, [], ◌∷◌, ◌++◌, refl}
 use Rattle.std.specs.Prelude.{Option, Some}
 use Rattle.hv_types.specs.Bins.{Answered}
-use Rattle.hv_model.specs.Scripts.{Script, Done, Ask, Fail, ask, ◌>>=◌, run, Reads, nothing, one}
+use Rattle.hv_model.specs.Scripts.{Script, Done, Ask, Fail, ask, only_if, ◌>>=◌, run, Reads, nothing, one}
 
 -- a script, and then the one that goes on with its value
 pub reads_then : {Q V A B : Type 0} {s : Script Q V A}
@@ -21,6 +21,11 @@ reads_map f (one h) = one (reads_map f h)
 pub reads_ask : {Q V : Type 0} (q : Q) (v : V) →
     Reads (ask q) (record { question = q; value = v } ∷ []) v
 reads_ask q v = one nothing
+
+-- where a test is true
+pub where_true : {Q V A : Type 0} {s : Script Q V A} {xs : List (Answered Q V)} {a : A}
+    (test : Bool) → test ≡ true → Reads s xs a → Reads (only_if test s) xs a
+where_true test e r = rw e r
 
 -- what goes on with a script that goes on
 pub then_then : {Q V A B C : Type 0} (s : Script Q V A) (j : A → Script Q V B)

@@ -1,10 +1,10 @@
 -- Small facts of lists of bits and bytes.
-use Rattle.std.proofs.Common.{◌≡◌, ℕ, zero, suc, ◌+◌, true, List, [], ◌∷◌, ◌++◌, length, refl, ap, arith, eq-eqb}
+use Rattle.std.proofs.Common.{◌≡◌, ℕ, zero, suc, ◌+◌, true, List, ◌∷◌, ◌++◌, length, refl, ap, arith}
 use Rattle.std.specs.Prelude.{replicate}
 use Rattle.std.specs.List.{list_all}
 use Rattle.std.proofs.lemmas.List.{length-replicate}
 use Rattle.hv_model.specs.BitLaws.{AreBits}
-use Rattle.hv_model.specs.Units.{is_zero, same_bytes, last_of}
+use Rattle.hv_model.specs.Units.{is_zero}
 use Rattle.hv_model.proofs.BitLaws.{AreBits-replicate}
 
 abbrev pub zeros : ℕ → List ℕ
@@ -24,12 +24,3 @@ AreBits-zeros n = AreBits-replicate n 0 (omega arith)
 pub all_zero : (n : ℕ) → list_all is_zero (zeros n) ≡ true
 all_zero zero = refl
 all_zero (suc n) = all_zero n
-
-pub same_as_itself : (bytes : List ℕ) → same_bytes bytes bytes ≡ true
-same_as_itself [] = refl
-same_as_itself (x ∷ bytes) = rw (eq-eqb x x refl) (same_as_itself bytes)
-
-pub last_of_push : (a : List ℕ) (x : ℕ) → last_of (a ++ x ∷ []) ≡ x
-last_of_push [] x = refl
-last_of_push (y ∷ []) x = refl
-last_of_push (y ∷ z ∷ a) x = last_of_push (z ∷ a) x

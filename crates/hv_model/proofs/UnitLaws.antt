@@ -154,7 +154,7 @@ last_of-escape run (byte ∷ second ∷ bytes) h =
     (λ e. last_of-behind 3 (byte ∷ rest) (last_of-behind byte rest ends)) (λ e. last_of-behind byte
     rest ends)
 
-same_bytes_self : (bytes : List ℕ) → same_bytes bytes bytes ≡ true
+pub same_bytes_self : (bytes : List ℕ) → same_bytes bytes bytes ≡ true
 same_bytes_self [] = refl
 same_bytes_self (byte ∷ bytes) = rw (eq-eqb byte byte refl, same_bytes_self bytes) refl
 

@@ -1,4 +1,5 @@
--- A grey picture of 64x64 and its 80 bytes, and the coding order of groups, computed by the definitions.
+-- A grey picture of 64x64 and its 80 bytes, and the coding order of groups, computed by the
+-- definitions.
 use Rattle.std.proofs.Common.{◌≡◌, ℕ, List, [], ◌∷◌, refl, map}
 use Rattle.std.specs.Prelude.{Some, None}
 use Rattle.hv_types.specs.declared.settings.Settings.{Settings}
@@ -8,6 +9,7 @@ use Rattle.hv_model.specs.Bits.{first_bytes}
 use Rattle.hv_model.specs.Contexts.{lps_width, next_variable, first_variables}
 use Rattle.hv_model.specs.CodeWord.{shift_of}
 use Rattle.hv_model.specs.Fields.{log2_of}
+use Rattle.hv_model.specs.Bins.{sites}
 use Rattle.hv_model.specs.Structure.{coding}
 use Rattle.hv_model.specs.Reconstruction.{grey}
 use Rattle.hv_model.specs.Encoding.{encode_of}
@@ -29,20 +31,20 @@ one_block = record {
 
 abbrev pub eighty_bytes : List ℕ
 eighty_bytes =
-    0 ∷ 0 ∷ 0 ∷ 1 ∷ 0x40 ∷ 0x01 ∷ 0x0C ∷ 0x01 ∷ 0xFF ∷ 0xFF ∷ 0x01 ∷ 0x60 ∷ 0x00 ∷ 0x00 ∷ 0x03 ∷ 0x00 ∷
-    0x90 ∷ 0x00 ∷ 0x00 ∷ 0x03 ∷ 0x00 ∷ 0x00 ∷ 0x03 ∷ 0x00 ∷ 0x99 ∷ 0xAC ∷ 0x09 ∷
-    0 ∷ 0 ∷ 0 ∷ 1 ∷ 0x42 ∷ 0x01 ∷ 0x01 ∷ 0x01 ∷ 0x60 ∷ 0x00 ∷ 0x00 ∷ 0x03 ∷ 0x00 ∷ 0x90 ∷ 0x00 ∷ 0x00 ∷
-    0x03 ∷ 0x00 ∷ 0x00 ∷ 0x03 ∷ 0x00 ∷ 0x99 ∷ 0xA0 ∷ 0x20 ∷ 0x81 ∷ 0x05 ∷ 0x96 ∷ 0xB9 ∷ 0x24 ∷ 0xCA ∷
-    0x08 ∷
+    0 ∷ 0 ∷ 0 ∷ 1 ∷ 0x40 ∷ 0x01 ∷ 0x0C ∷ 0x01 ∷ 0xFF ∷ 0xFF ∷ 0x01 ∷ 0x60 ∷ 0x00 ∷ 0x00 ∷ 0x03 ∷
+    0x00 ∷ 0x90 ∷ 0x00 ∷ 0x00 ∷ 0x03 ∷ 0x00 ∷ 0x00 ∷ 0x03 ∷ 0x00 ∷ 0x99 ∷ 0xAC ∷ 0x09 ∷
+    0 ∷ 0 ∷ 0 ∷ 1 ∷ 0x42 ∷ 0x01 ∷ 0x01 ∷ 0x01 ∷ 0x60 ∷ 0x00 ∷ 0x00 ∷ 0x03 ∷ 0x00 ∷ 0x90 ∷ 0x00 ∷
+    0x00 ∷ 0x03 ∷ 0x00 ∷ 0x00 ∷ 0x03 ∷ 0x00 ∷ 0x99 ∷ 0xA0 ∷ 0x20 ∷ 0x81 ∷ 0x05 ∷ 0x96 ∷ 0xB9 ∷
+    0x24 ∷ 0xCA ∷ 0x08 ∷
     0 ∷ 0 ∷ 0 ∷ 1 ∷ 0x44 ∷ 0x01 ∷ 0xC0 ∷ 0x71 ∷ 0x80 ∷ 0x12 ∷
     0 ∷ 0 ∷ 0 ∷ 1 ∷ 0x28 ∷ 0x01 ∷ 0xAF ∷ 0xC0 ∷ 0xE8 ∷ 0x73 ∷ 0x7F ∷ 0x80 ∷ []
 
 grey_picture_of_eighty_bytes : encode_of one_block (grey 64 64 ∷ []) ≡ eighty_bytes
-unfolding first_bytes lps_width next_variable first_variables shift_of log2_of
+unfolding first_bytes lps_width next_variable first_variables shift_of log2_of sites
 grey_picture_of_eighty_bytes = refl
 
 pub eighty_bytes_decoded : decode_of eighty_bytes ≡ Some (crop (grey 64 64) 64 64 ∷ [])
-unfolding first_bytes lps_width next_variable first_variables shift_of log2_of
+unfolding first_bytes lps_width next_variable first_variables shift_of log2_of sites
 eighty_bytes_decoded = refl
 
 no_pictures_without_units : decode_of [] ≡ Some []

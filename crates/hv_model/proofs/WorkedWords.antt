@@ -1,10 +1,10 @@
 -- Worked code words, computed by the definitions.
-use Rattle.std.proofs.Common.{◌≡◌, ℕ, Bool, true, false, List, [], ◌∷◌, refl, map, ◌++◌}
+use Rattle.std.proofs.Common.{◌≡◌, true, false, List, [], ◌∷◌, refl, map, ◌++◌}
 use Rattle.hv_types.specs.declared.bins.SliceKind.TheVariants.{I}
-use Rattle.hv_types.specs.declared.bins.CtxTable.{CtxTable}
 use Rattle.hv_types.specs.declared.bins.CtxTable.TheVariants.{Split, PrevIntra, ChromaMode, CbfLuma, CbfChroma, SaoType}
-use Rattle.hv_types.specs.Bins.{Bin, context_bin, bypass_bin, terminate_bin}
+use Rattle.hv_types.specs.Bins.{Bin, bypass_bin, terminate_bin}
 use Rattle.hv_model.specs.Bits.{bytes_of, first_bytes}
+use Rattle.hv_model.specs.Bins.{bin}
 use Rattle.hv_model.specs.Contexts.{lps_width, next_variable, first_variables}
 use Rattle.hv_model.specs.CodeWord.{shift_of, reach, first_interval, word}
 
@@ -13,7 +13,8 @@ abbrev carrying_bins : List Bin
 carrying_bins =
     map bypass_bin (false ∷ true ∷ false ∷ false ∷ false ∷ true ∷ []) ++ terminate_bin true ∷ []
 
-carrying_word : word I 26 carrying_bins ≡ 0 ∷ 1 ∷ 0 ∷ 0 ∷ 0 ∷ 1 ∷ 1 ∷ 1 ∷ 1 ∷ 0 ∷ 1 ∷ 1 ∷ 0 ∷ 1 ∷ 1 ∷ []
+carrying_word : word I 26 carrying_bins ≡
+    0 ∷ 1 ∷ 0 ∷ 0 ∷ 0 ∷ 1 ∷ 1 ∷ 1 ∷ 1 ∷ 0 ∷ 1 ∷ 1 ∷ 0 ∷ 1 ∷ 1 ∷ []
 unfolding shift_of lps_width next_variable first_variables
 carrying_word = refl
 
@@ -26,15 +27,12 @@ unfolding shift_of lps_width next_variable first_variables
 carrying_low = refl
 
 -- the bins of a grey block of 64x64
-abbrev at : CtxTable → ℕ → Bool → Bin
-at table index value = context_bin (record { table = table; index = index }) value
-
-abbrev grey_bins : List Bin
+abbrev pub grey_bins : List Bin
 grey_bins =
-    at SaoType 0 false ∷ at SaoType 0 false ∷ at Split 0 false ∷ at PrevIntra 0 true ∷
-    bypass_bin true ∷ bypass_bin false ∷ at ChromaMode 0 false ∷ at CbfChroma 0 false ∷
-    at CbfChroma 0 false ∷ at CbfLuma 0 false ∷ at CbfLuma 0 false ∷ at CbfLuma 0 false ∷
-    at CbfLuma 0 false ∷ terminate_bin true ∷ []
+    bin SaoType 0 false ∷ bin SaoType 0 false ∷ bin Split 0 false ∷ bin PrevIntra 0 true ∷
+    bypass_bin true ∷ bypass_bin false ∷ bin ChromaMode 0 false ∷ bin CbfChroma 0 false ∷
+    bin CbfChroma 0 false ∷ bin CbfLuma 0 false ∷ bin CbfLuma 0 false ∷ bin CbfLuma 0 false ∷
+    bin CbfLuma 0 false ∷ terminate_bin true ∷ []
 
 grey_low : (reach (first_interval (first_variables I 26)) grey_bins).low ≡ 30467552
 unfolding shift_of lps_width next_variable first_variables

@@ -1,9 +1,10 @@
 -- Context variables: where each starts in a slice, and how it adapts (9.3.2.2, 9.3.4.3.2).
-use Rattle.std.specs.Prelude.{ℕ, ◌+◌, ◌-◌, ◌*◌, ◌/◌, ◌%◌, ◌<◌, Bool, true, false, cond, not, nat_eq, nat_lt, min, List, [], map, length, flat_map, slice_index_or, slice_set, ℤ, pos, ◌+ℤ◌, ◌-ℤ◌, ◌*ℤ◌}
-use Rattle.std.specs.Int.{int_min, int_max, int_shr}
+use Rattle.std.specs.Prelude.{ℕ, ◌+◌, ◌-◌, ◌*◌, ◌/◌, ◌%◌, ◌<◌, Bool, true, false, cond, not, nat_eq, nat_lt, min, List, [], map, length, flat_map, slice_index_or, slice_set, pos, ◌+ℤ◌, ◌-ℤ◌, ◌*ℤ◌}
+use Rattle.std.specs.Int.{int_shr}
 use Rattle.std.specs.Int.RustNames.{unsigned_abs}
 use Rattle.hv_types.specs.declared.bins.SliceKind.{SliceKind}
 use Rattle.hv_types.specs.declared.bins.Ctx.{Ctx}
+use Rattle.hv_model.specs.Clipping.{clip3}
 use Rattle.hv_model.specs.ContextTables.{initValue, offset_of, tables, values_of}
 use Rattle.hv_model.specs.ArithmeticTables.{rangeTabLps, transIdxLps}
 
@@ -20,9 +21,6 @@ abbrev pub place_of : Ctx → ℕ
 place_of context = offset_of context.table + context.index
 
 -- ---- initialization (9.3.2.2)
-
-abbrev pub clip3 : ℤ → ℤ → ℤ → ℤ
-clip3 low high value = int_max low (int_min high value)
 
 -- preCtxState, from initValue and the slice's quantiser
 abbrev pub preCtxState : ℕ → ℕ → ℕ

@@ -1,6 +1,6 @@
 -- Decoding (clauses 7 to 9 and Annex B): the pictures that a byte stream shows, in output order; none where it isn't a
--- stream of this profile. So far each picture is an IDR picture of one coding tree unit with a blank tree.
-use Rattle.std.specs.Prelude.{ℕ, ◌+◌, ◌-◌, ◌*◌, ◌%◌, Bool, false, cond, not, nat_eq, nat_lt, nat_le, ◌&&◌, ◌||◌, List, [], ◌∷◌, length, take, drop, filter, replicate, Option, Some, None, option_and_then, option_map}
+-- stream of this profile. So far each picture is an IDR picture with blank trees.
+use Rattle.std.specs.Prelude.{ℕ, ◌+◌, ◌-◌, ◌*◌, ◌%◌, Bool, false, cond, not, nat_eq, nat_lt, nat_le, ◌&&◌, ◌||◌, List, [], ◌∷◌, length, take, drop, filter, map, replicate, Option, Some, None, option_and_then, option_map}
 use Rattle.std.specs.List.{list_all}
 use Rattle.hv_types.specs.declared.bins.SliceKind.TheVariants.{I}
 use Rattle.hv_types.specs.declared.picture.Picture.{Picture}
@@ -11,7 +11,8 @@ use Rattle.hv_model.specs.Units.{NalUnit, units_of, is_zero, same_bytes, last_of
 use Rattle.hv_model.specs.Headers.{Size, read_vps, read_sps, read_pps, read_idr_slice}
 use Rattle.hv_model.specs.Oracle.{Oracle, begin, read, bits_left}
 use Rattle.hv_model.specs.Trees.{CodingTreeUnit}
-use Rattle.hv_model.specs.BlockSyntax.{coding_tree_unit}
+use Rattle.hv_model.specs.Bins.{Site, sites}
+use Rattle.hv_model.specs.BlockSyntax.{slice_segment_data}
 use Rattle.hv_model.specs.Reconstruction.{unfiltered}
 use Rattle.hv_model.specs.Deblocking.{deblocked}
 use Rattle.hv_model.specs.SampleAdaptiveOffset.{shown}
@@ -50,38 +51,38 @@ is_slice_end bits left =
     list_all is_zero left &&
     nat_lt (length left) 8
 
-abbrev pub if_ended : List ℕ → Option (CodingTreeUnit × Oracle) → Option CodingTreeUnit
+abbrev pub if_ended : List ℕ → Option (List CodingTreeUnit × Oracle) → Option (List CodingTreeUnit)
 if_ended bits None = None
-if_ended bits (Some r) =
-    cond (r.0.end_of_slice_segment_flag && is_slice_end bits (bits_left r.1)) (Some r.0) None
+if_ended bits (Some r) = cond (is_slice_end bits (bits_left r.1)) (Some r.0) None
 
--- slice_segment_data (7.3.8.1) of one coding tree unit
-abbrev pub slice_data : ℕ → List ℕ → Option CodingTreeUnit
-slice_data qp bits =
-    if_ended bits (option_and_then (λ oracle. read coding_tree_unit oracle) (begin bits I qp))
+-- slice_segment_data (7.3.8.1) of these blocks
+abbrev pub slice_data : List Site → ℕ → List ℕ → Option (List CodingTreeUnit)
+slice_data sites qp bits =
+    if_ended bits (option_and_then (λ oracle. read (slice_segment_data sites) oracle) (begin bits I qp))
 
--- the picture is one coding tree block
-abbrev pub is_one_block : Size → Bool
-is_one_block size =
-    nat_eq size.pic_width_in_luma_samples 64 && nat_eq size.pic_height_in_luma_samples 64
+-- the blocks of a picture
+abbrev pub sites_of : Size → List Site
+sites_of size = sites size.pic_width_in_luma_samples size.pic_height_in_luma_samples
 
 -- what is shown of the picture, cropped by the conformance window
-abbrev pub picture_shown : Size → CodingTreeUnit → Picture
-picture_shown size unit =
+abbrev pub picture_shown : Size → List CodingTreeUnit → Picture
+picture_shown size units =
     let width = size.pic_width_in_luma_samples in
     let height = size.pic_height_in_luma_samples in
-    crop (shown (deblocked (unfiltered width height (unit.tree ∷ []))) (unit.sao ∷ []))
+    crop
+    (shown (deblocked (unfiltered width height (map (λ unit. unit.tree) units))) (map (λ unit. unit.sao) units))
     (width - 2 * size.conf_win_right_offset) (height - 2 * size.conf_win_bottom_offset)
 
 abbrev pub slice_after_header : Size → Option (ℕ × List ℕ) → Option Picture
 slice_after_header size None = None
 slice_after_header size (Some header) =
-    option_map (picture_shown size) (option_and_then (slice_data header.0) (behind_alignment header.1))
+    option_map (picture_shown size)
+    (option_and_then (slice_data (sites_of size) header.0) (behind_alignment header.1))
 
 -- an IDR picture: a unit of type IDR_N_LP with its slice
 abbrev pub picture_of_unit : Size → NalUnit → Option Picture
 picture_of_unit size unit =
-    cond (has_type 20 unit && is_one_block size)
+    cond (has_type 20 unit)
     (slice_after_header size (read_header read_idr_slice (bits_of unit.payload)))
     None
 

@@ -1,6 +1,6 @@
 -- The one-thread encoder: the bytes that are written for a list of pictures, and the pictures that a decoder shows. So
--- far of pictures of one coding tree block, each a group of its own, at effort 0.
-use Rattle.std.specs.Prelude.{ℕ, true, List, [], ◌∷◌, ◌++◌, map, flat_map}
+-- far each picture is a group of its own, at effort 0.
+use Rattle.std.specs.Prelude.{ℕ, List, [], ◌∷◌, ◌++◌, map, flat_map}
 use Rattle.hv_types.specs.declared.bins.SliceKind.TheVariants.{I}
 use Rattle.hv_types.specs.declared.settings.Settings.{Settings}
 use Rattle.hv_types.specs.declared.settings.Emit.{Emit}
@@ -14,7 +14,7 @@ use Rattle.hv_model.specs.Units.{unit_bytes}
 use Rattle.hv_model.specs.Headers.{vps, sps, pps, idr_slice, size_of}
 use Rattle.hv_model.specs.Structure.{qp_at}
 use Rattle.hv_model.specs.Trees.{Off, CodingTreeUnit}
-use Rattle.hv_model.specs.Bins.{bins}
+use Rattle.hv_model.specs.Bins.{Site, sites, is_empty, slice_bins}
 use Rattle.hv_model.specs.CodeWord.{word}
 use Rattle.hv_model.specs.ModeDecision.{best}
 use Rattle.hv_model.specs.Reconstruction.{unfiltered}
@@ -37,22 +37,35 @@ parameter_sets cfg =
 
 -- ---- a picture
 
--- the coding tree unit of a picture of one
-abbrev pub coded_unit : CodingTreeUnit
-coded_unit = record { sao = Off; tree = best; end_of_slice_segment_flag = true }
+-- the coding tree units of these blocks: sample adaptive offset is off, and the last one ends the slice
+abbrev pub coded_units : List Site → List CodingTreeUnit
+coded_units [] = []
+coded_units (site ∷ sites) =
+    record { sao = Off; tree = best site; end_of_slice_segment_flag = is_empty sites } ∷ coded_units sites
+
+-- the slice data of a picture with these blocks
+abbrev pub slice_data_of : ℕ → List Site → List ℕ
+slice_data_of qp sites = word I qp (slice_bins sites (coded_units sites))
 
 -- the slice of an IDR picture: its header, a byte_alignment, and the code word with zeros to the byte
-abbrev pub slice_payload : ℕ → List ℕ
-slice_payload qp = bytes_of (aligned (bits_of_fields (idr_slice qp)) ++ word I qp (bins coded_unit))
+abbrev pub slice_payload : ℕ → List Site → List ℕ
+slice_payload qp sites = bytes_of (aligned (bits_of_fields (idr_slice qp)) ++ slice_data_of qp sites)
+
+-- the blocks of a padded picture
+abbrev pub picture_sites : Settings → List Site
+picture_sites cfg = sites (padded_width cfg) (padded_height cfg)
 
 -- an IDR picture has depth 0
 abbrev pub picture_unit : Settings → Picture → List ℕ
-picture_unit cfg picture = unit_of_payload 20 (slice_payload (qp_at cfg.qp 0))
+picture_unit cfg picture = unit_of_payload 20 (slice_payload (qp_at cfg.qp 0) (picture_sites cfg))
 
 -- what a decoder shows of it, before it is cropped
 abbrev pub picture_shown : Settings → Picture → Picture
 picture_shown cfg picture =
-    shown (deblocked (unfiltered (padded_width cfg) (padded_height cfg) (coded_unit.tree ∷ []))) (coded_unit.sao ∷ [])
+    let units = coded_units (picture_sites cfg) in
+    shown
+    (deblocked (unfiltered (padded_width cfg) (padded_height cfg) (map (λ unit. unit.tree) units)))
+    (map (λ unit. unit.sao) units)
 
 -- ---- a video
 

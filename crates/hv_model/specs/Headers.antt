@@ -1,11 +1,15 @@
 -- Parameter sets and slice segment headers (7.3.2, 7.3.6): one table of fields each, read from both ends. What this
 -- profile leaves free are the parameters of the tables.
-use Rattle.std.specs.Prelude.{ℕ, ◌+◌, ◌-◌, ◌/◌, ◌%◌, Bool, cond, not, nat_eq, nat_lt, nat_le, ◌&&◌, List, [], ◌∷◌, ◌++◌, ℤ, pos, ◌+ℤ◌, ◌-ℤ◌}
+use Rattle.std.specs.Prelude.{ℕ, zero, suc, ◌+◌, ◌-◌, ◌/◌, ◌%◌, Bool, cond, not, nat_eq, nat_lt, nat_le, ◌&&◌, List, [], ◌∷◌, ◌++◌, length, ℤ, pos, ◌+ℤ◌, ◌-ℤ◌}
 use Rattle.std.specs.Int.RustNames.{unsigned_abs}
 use Rattle.std.specs.Int.{is_negative}
+use Rattle.std.specs.List.{count_by}
+use Rattle.hv_types.specs.declared.bins.SliceKind.{SliceKind}
+use Rattle.hv_types.specs.declared.bins.SliceKind.TheVariants.{I, P}
 use Rattle.hv_types.specs.declared.settings.Settings.{Settings}
 use Rattle.hv_types.specs.Configuration.{padded_width, padded_height}
 use Rattle.hv_model.specs.Fields.{Descriptor, U, Ue, Field, u, ue, se, signed_of, HeaderScript}
+use Rattle.hv_model.specs.Structure.{Kept, ReferenceSet, reference_set, coded_of, qp_at}
 use Rattle.hv_model.specs.Scripts.{Done, Ask, only_if, ◌>>=◌}
 
 -- ---- tables
@@ -176,6 +180,78 @@ qp_delta qp = pos qp -ℤ pos 26
 abbrev pub idr_slice : ℕ → List Field
 idr_slice qp = idr_start ++ se (qp_delta qp) ∷ []
 
+-- ---- slice_segment_header of another picture than an IDR
+
+-- what of it is free
+pub record SliceHeader : Type 0 where
+  pub slice_type : SliceKind
+  -- with 8 bits, so that it is the picture order count itself
+  pub slice_pic_order_cnt_lsb : ℕ
+  pub references : ReferenceSet
+  pub qp : ℕ
+
+-- slice_type in an independent slice (7.4.7.1)
+abbrev pub type_code : SliceKind → ℕ
+type_code P = 1
+type_code I = 2
+
+abbrev pub bit_of : Bool → ℕ
+bit_of flag = cond flag 1 0
+
+-- st_ref_pic_set (7.3.7), one side of it, behind a picture at this distance: delta_poc_s0_minus1 and
+-- used_by_curr_pic_s0_flag, or delta_poc_s1_minus1 and used_by_curr_pic_s1_flag
+abbrev pub side_fields : ℕ → List Kept → List Field
+side_fields from [] = []
+side_fields from (kept ∷ rest) =
+    ue (kept.distance - from - 1) ∷ u 1 (bit_of kept.is_used) ∷ side_fields kept.distance rest
+
+-- st_ref_pic_set: num_negative_pics, num_positive_pics, and the pictures of both sides
+abbrev pub set_fields : ReferenceSet → List Field
+set_fields references =
+    ue (length references.before) ∷
+    ue (length references.after) ∷
+    (side_fields 0 references.before ++ side_fields 0 references.after)
+
+-- how many pictures of the set the picture itself refers to
+abbrev pub used_in : List Kept → ℕ
+used_in kept = count_by (λ k. k.is_used) kept
+
+abbrev pub used_count : ReferenceSet → ℕ
+used_count references = used_in references.before + used_in references.after
+
+-- in P slices: the number of active references is that of the used ones
+abbrev pub active_fields : SliceKind → ℕ → List Field
+active_fields I used = []
+active_fields P used =
+    u 1 1 ∷  -- num_ref_idx_active_override_flag
+    ue (used - 1) ∷  -- num_ref_idx_l0_active_minus1
+    ue 4 ∷  -- five_minus_max_num_merge_cand
+    []
+
+abbrev pub slice_start : List Field
+slice_start =
+    u 1 1 ∷  -- first_slice_segment_in_pic_flag
+    ue 0 ∷  -- slice_pic_parameter_set_id
+    []
+
+abbrev pub sao_flags : List Field
+sao_flags =
+    u 1 1 ∷  -- slice_sao_luma_flag
+    u 1 1 ∷  -- slice_sao_chroma_flag
+    []
+
+abbrev pub slice : SliceHeader → List Field
+slice header =
+    slice_start ++
+    ue (type_code header.slice_type) ∷
+    u 8 header.slice_pic_order_cnt_lsb ∷
+    u 1 0 ∷  -- short_term_ref_pic_set_sps_flag
+    (set_fields header.references ++
+    sao_flags ++
+    active_fields header.slice_type (used_count header.references) ++
+    se (qp_delta header.qp) ∷
+    [])
+
 -- ---- the size that settings ask for
 
 abbrev pub size_of : Settings → Size
@@ -185,6 +261,20 @@ size_of s = record {
   conf_win_right_offset = (padded_width s - s.width) / 2;
   conf_win_bottom_offset = (padded_height s - s.height) / 2;
 }
+
+-- ---- the slices of a group
+
+-- the header of a picture of a group of so many, with these levels and this quantiser: picture 0 is an IDR picture, the
+-- others are P pictures
+abbrev pub slice_of : ℕ → ℕ → ℕ → ℕ → List Field
+slice_of count levels qp zero = idr_slice (qp_at qp 0)
+slice_of count levels qp (suc k) =
+    slice (record {
+      slice_type = P;
+      slice_pic_order_cnt_lsb = suc k;
+      references = reference_set count levels (suc k);
+      qp = qp_at qp (coded_of count levels (suc k)).depth;
+    })
 
 -- ---- reading
 
@@ -263,3 +353,50 @@ qp_from code =
 
 abbrev pub read_idr_slice : HeaderScript ℕ
 read_idr_slice = fixed idr_start >>= λ _. free Ue >>= λ code. qp_from code
+
+-- one side of a set: so many pictures, behind one at this distance
+abbrev pub read_side : ℕ → ℕ → HeaderScript (List Kept)
+read_side zero from = Done []
+read_side (suc count) from =
+    free Ue >>= λ delta.
+    free (U 1) >>= λ flag.
+    read_side count (from + delta + 1) >>= λ rest.
+    Done (record { distance = from + delta + 1; is_used = nat_eq flag 1 } ∷ rest)
+
+-- a set of at most one picture more than there are levels
+abbrev pub read_set : ℕ → HeaderScript ReferenceSet
+read_set levels =
+    free Ue >>= λ negative.
+    free Ue >>= λ positive.
+    only_if (nat_le (negative + positive) (levels + 1))
+    (read_side negative 0 >>= λ before.
+    read_side positive 0 >>= λ after.
+    Done (record { before = before; after = after }))
+
+abbrev pub type_from : ℕ → HeaderScript SliceKind
+type_from code = cond (nat_eq code 1) (Done P) (only_if (nat_eq code 2) (Done I))
+
+-- a P slice refers to one picture or to two
+abbrev pub read_active : SliceKind → ℕ → HeaderScript (Unit {0})
+read_active I used = Done tt
+read_active P used = only_if (nat_le 1 used && nat_le used 2) (fixed (active_fields P used))
+
+abbrev pub read_slice : ℕ → HeaderScript SliceHeader
+read_slice levels =
+    fixed slice_start >>= λ _.
+    free Ue >>= λ code.
+    type_from code >>= λ slice_type.
+    free (U 8) >>= λ count.
+    only_if (nat_le 1 count && nat_le count 127)
+    (fixed (u 1 0 ∷ []) >>= λ _.
+    read_set levels >>= λ references.
+    fixed sao_flags >>= λ _.
+    read_active slice_type (used_count references) >>= λ _.
+    free Ue >>= λ delta.
+    qp_from delta >>= λ qp.
+    Done (record {
+      slice_type = slice_type;
+      slice_pic_order_cnt_lsb = count;
+      references = references;
+      qp = qp;
+    }))

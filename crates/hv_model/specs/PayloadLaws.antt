@@ -1,5 +1,5 @@
 -- What is read of a payload is what it was made with.
-use Rattle.std.specs.Prelude.{◌≡◌, ◌≢◌, ℕ, ◌-◌, ◌%◌, ◌<◌, ◌≤◌, true, List, ◌++◌, length, replicate, Some}
+use Rattle.std.specs.Prelude.{◌≡◌, ◌≢◌, ℕ, ◌-◌, ◌%◌, ◌<◌, ◌≤◌, true, List, [], ◌++◌, length, replicate, Some}
 use Rattle.hv_types.specs.declared.bins.SliceKind.TheVariants.{I}
 use Rattle.hv_model.specs.Bits.{bits_of, bytes_of}
 use Rattle.hv_model.specs.BitLaws.{AreBits}
@@ -9,8 +9,8 @@ use Rattle.hv_model.specs.Units.{NalUnit, last_of}
 use Rattle.hv_model.specs.Headers.{Size, idr_slice}
 use Rattle.hv_model.specs.CodeWord.{word}
 use Rattle.hv_model.specs.Trees.{CodingTreeUnit}
-use Rattle.hv_model.specs.Bins.{IsValid, bins}
-use Rattle.hv_model.specs.Decoding.{parameters, behind_alignment, slice_data, has_type, is_one_block, picture_shown, picture_of_unit}
+use Rattle.hv_model.specs.Bins.{Site, AreValid, slice_bins}
+use Rattle.hv_model.specs.Decoding.{parameters, behind_alignment, slice_data, has_type, sites_of, picture_shown, picture_of_unit}
 
 -- the bits of fields, and of those behind them
 abbrev pub JoinedFieldsHaveJoinedBits : Type 0
@@ -42,25 +42,26 @@ AlignmentIsRead =
     (before : ℕ) (bits : List ℕ) → length bits % 8 ≡ 0 →
     behind_alignment (padding_of before ++ bits) ≡ Some bits
 
--- slice_segment_data (7.3.8.1) of one coding tree unit, from its code word and zeros to the byte
+-- slice_segment_data (7.3.8.1), from its code word and zeros to the byte
 abbrev pub SliceDataIsRead : Type 0
 SliceDataIsRead =
-    (qp zeros : ℕ) (unit : CodingTreeUnit) → IsValid unit.tree →
-    unit.end_of_slice_segment_flag ≡ true → zeros < 8 →
-    slice_data qp (word I qp (bins unit) ++ replicate zeros 0) ≡ Some unit
+    (sites : List Site) (qp zeros : ℕ) (units : List CodingTreeUnit) → sites ≢ [] → AreValid sites units →
+    zeros < 8 → slice_data sites qp (word I qp (slice_bins sites units) ++ replicate zeros 0) ≡ Some units
 
--- the payload of a slice of one coding tree unit
-abbrev pub slice_of : ℕ → CodingTreeUnit → List ℕ
-slice_of qp unit = bytes_of (aligned (bits_of_fields (idr_slice qp)) ++ word I qp (bins unit))
+-- the payload of a slice of these blocks
+abbrev pub slice_of : ℕ → List Site → List CodingTreeUnit → List ℕ
+slice_of qp sites units =
+    bytes_of (aligned (bits_of_fields (idr_slice qp)) ++ word I qp (slice_bins sites units))
 
 -- the picture of a unit with such a payload
 abbrev pub SlicesAreRead : Type 0
 SlicesAreRead =
-    (size : Size) (qp : ℕ) (unit : CodingTreeUnit) (nal : NalUnit) →
-    IsValid unit.tree → unit.end_of_slice_segment_flag ≡ true → qp ≤ 51 → is_one_block size ≡ true →
-    has_type 20 nal ≡ true → nal.payload ≡ slice_of qp unit →
-    picture_of_unit size nal ≡ Some (picture_shown size unit)
+    (size : Size) (qp : ℕ) (units : List CodingTreeUnit) (nal : NalUnit) →
+    sites_of size ≢ [] → AreValid (sites_of size) units → qp ≤ 51 →
+    has_type 20 nal ≡ true → nal.payload ≡ slice_of qp (sites_of size) units →
+    picture_of_unit size nal ≡ Some (picture_shown size units)
 
 -- its last byte isn't 0
 abbrev pub SlicesEnd : Type 0
-SlicesEnd = (qp : ℕ) (unit : CodingTreeUnit) → last_of (slice_of qp unit) ≢ 0
+SlicesEnd =
+    (qp : ℕ) (sites : List Site) (units : List CodingTreeUnit) → last_of (slice_of qp sites units) ≢ 0

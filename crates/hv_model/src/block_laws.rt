@@ -1,12 +1,31 @@
-// What is read of the bins of a coding tree unit is the unit.
-ghost use Rattle.hv_model.specs.BlockLaws.{CodingTreeUnitsAreRead, LastCodingTreeUnitsEnd};
+// What is read of the bins of slice data is what was coded.
+ghost use Rattle.hv_model.specs.BlockLaws.{CodingTreeUnitsAreRead, SliceDataIsReadBack, SliceDataEnds, CodedUnitsAreValid, SitesAreThere};
 
-/// The script of a coding tree unit (7.3.8.2) reads the unit from its bins.
+/// At each coding tree block the script of a coding tree unit (7.3.8.2) reads the unit from its
+/// bins, where its tree may be coded there.
 pub fn coding_tree_units_are_read()
     ensures { CodingTreeUnitsAreRead }
 {}
 
-/// The last bin of the last coding tree unit of a slice, and no other of its bins, ends the slice.
-pub fn last_coding_tree_units_end()
-    ensures { LastCodingTreeUnitsEnd }
+/// The script of slice data (7.3.8.1) with any number of coding tree blocks reads the coding tree
+/// units from their bins.
+pub fn slice_data_is_read_back()
+    ensures { SliceDataIsReadBack }
+{}
+
+/// The last bin of the slice data of at least one coding tree block, and no other of its bins, ends
+/// the slice.
+pub fn slice_data_ends()
+    ensures { SliceDataEnds }
+{}
+
+/// The coding tree units that the encoder chooses for the coding tree blocks of a picture may be
+/// coded there: each block has one, and the last one, and no other, ends the slice.
+pub fn coded_units_are_valid()
+    ensures { CodedUnitsAreValid }
+{}
+
+/// A picture of at least one luma sample a side has at least one coding tree block (6.5.1).
+pub fn sites_are_there()
+    ensures { SitesAreThere }
 {}

@@ -1,5 +1,5 @@
 // What is written as the bits of fields is read back exactly.
-ghost use Rattle.hv_model.specs.FieldLaws.{FieldsAreReadBack, AlignedBitsAreWhole, AlignedBytesEnd};
+ghost use Rattle.hv_model.specs.FieldLaws.{FieldsAreReadBack, AlignedBitsAreWhole, AlignedBytesEnd, CodesOfLength, ZerosAreCounted, PaddingOfLength, LastIsLast};
 
 /// What a script reads where fields answer it that their descriptors can code (7.2, 9.2), it reads
 /// from the bits of these fields, and the bits that follow are left.
@@ -15,4 +15,12 @@ pub fn aligned_bits_are_whole()
 /// The bytes of bits with their alignment end in a byte other than 0, as a payload has to (7.4.2).
 pub fn aligned_bytes_end()
     ensures { AlignedBytesEnd }
+{}
+
+/// Exp-Golomb codes (9.2) and the padding to a byte (7.3.2.11), by their lengths; the last byte.
+pub fn codes_law()
+    ensures exp_golomb { CodesOfLength }
+    ensures zeros { ZerosAreCounted }
+    ensures padding { PaddingOfLength }
+    ensures last { LastIsLast }
 {}

@@ -22,19 +22,20 @@ pub fn alignment_is_read()
     ensures { AlignmentIsRead }
 {}
 
-/// The slice data (7.3.8.1) of one coding tree unit that may be coded and is the slice's last, its
-/// code word with zeros to the byte, is read as the unit.
+/// The slice data (7.3.8.1) of at least one coding tree block, the code word of coding tree units
+/// that may be coded there with zeros to the byte, is read as these units.
 pub fn slice_data_is_read()
     ensures { SliceDataIsRead }
 {}
 
-/// An IDR picture's unit, made with a slice header (7.3.6) and such slice data, shows the picture of
-/// the coding tree unit, where the picture is one coding tree block.
+/// An IDR picture's unit, made with a slice header (7.3.6) and the slice data of all coding tree
+/// blocks of a picture of some size, shows the picture of their coding tree units, cropped by the
+/// conformance window.
 pub fn slices_are_read()
     ensures { SlicesAreRead }
 {}
 
-/// The payload of such a unit ends in a byte other than 0 (7.4.2).
+/// The payload of such a unit, with any coding tree units, ends in a byte other than 0 (7.4.2).
 pub fn slices_end()
     ensures { SlicesEnd }
 {}

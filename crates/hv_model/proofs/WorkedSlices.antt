@@ -1,0 +1,97 @@
+-- Worked slices of pictures of several sizes, computed by the definitions.
+use Rattle.std.proofs.Common.{◌≡◌, true, false, [], ◌∷◌, drop, refl}
+use Rattle.hv_types.specs.declared.bins.CtxTable.TheVariants.{PartMode, PrevIntra, ChromaMode, CbfLuma, CbfChroma, SaoMerge, SaoType}
+use Rattle.hv_types.specs.Bins.{bypass_bin, terminate_bin}
+use Rattle.hv_model.specs.Bits.{first_bytes}
+use Rattle.hv_model.specs.Fields.{log2_of}
+use Rattle.hv_model.specs.Contexts.{lps_width, next_variable, first_variables}
+use Rattle.hv_model.specs.CodeWord.{shift_of}
+use Rattle.hv_model.specs.Trees.{Tree, Leaf, Split as SplitTree, Outside, Intra, blank_tree}
+use Rattle.hv_model.specs.Bins.{bin, sites, slice_bins}
+use Rattle.hv_model.specs.Encoding.{coded_units, slice_payload}
+use Rattle.hv_model.proofs.WorkedWords.{grey_bins}
+
+-- ---- what a slice of 64x64 and one of 8x8 are coded as
+
+bins_of_64x64 : slice_bins (sites 64 64) (coded_units (sites 64 64)) ≡ grey_bins
+unfolding sites
+bins_of_64x64 = refl
+
+-- The smallest unit has a part_mode and no split_cu_flag, and one block of luma.
+bins_of_8x8 : slice_bins (sites 8 8) (coded_units (sites 8 8)) ≡
+    bin SaoType 0 false ∷ bin SaoType 0 false ∷
+    bin PartMode 0 true ∷ bin PrevIntra 0 true ∷ bypass_bin true ∷ bypass_bin false ∷
+    bin ChromaMode 0 false ∷ bin CbfChroma 0 false ∷ bin CbfChroma 0 false ∷
+    bin CbfLuma 1 false ∷ terminate_bin true ∷ []
+unfolding sites
+bins_of_8x8 = refl
+
+-- ---- forced splits, and several blocks
+
+abbrev dc : Tree
+dc = Leaf (Intra 1)
+
+-- two units of 8x8 side by side
+tree_of_16x8 : blank_tree 3 16 8 ≡
+    SplitTree
+    (SplitTree (SplitTree dc dc Outside Outside) Outside Outside Outside)
+    Outside Outside Outside
+tree_of_16x8 = refl
+
+-- whole blocks, a column of 8 at the right, a row of 8 below, and their corner
+sites_of_136x72 : sites 136 72 ≡
+    record { has_left = false; has_above = false; width = 136; height = 72 } ∷
+    record { has_left = true; has_above = false; width = 72; height = 72 } ∷
+    record { has_left = true; has_above = false; width = 8; height = 72 } ∷
+    record { has_left = false; has_above = true; width = 136; height = 8 } ∷
+    record { has_left = true; has_above = true; width = 72; height = 8 } ∷
+    record { has_left = true; has_above = true; width = 8; height = 8 } ∷ []
+unfolding sites
+sites_of_136x72 = refl
+
+-- the last of them has blocks at its left and above it
+bins_of_a_corner : slice_bins (drop 5 (sites 136 72)) (coded_units (drop 5 (sites 136 72))) ≡
+    bin SaoMerge 0 false ∷ bin SaoMerge 0 false ∷
+    slice_bins (sites 8 8) (coded_units (sites 8 8))
+unfolding sites
+bins_of_a_corner = refl
+
+-- ---- code words
+
+slice_of_64x64 : slice_payload 0 (sites 64 64) ≡ 175 ∷ 6 ∷ 176 ∷ 152 ∷ 127 ∷ 255 ∷ 255 ∷ 248 ∷ []
+unfolding first_bytes log2_of lps_width next_variable first_variables shift_of sites
+slice_of_64x64 = refl
+
+slice_of_8x8 : slice_payload 0 (sites 8 8) ≡ 175 ∷ 6 ∷ 176 ∷ 152 ∷ 239 ∷ 255 ∷ 240 ∷ []
+unfolding first_bytes log2_of lps_width next_variable first_variables shift_of sites
+slice_of_8x8 = refl
+
+slice_of_16x8 : slice_payload 0 (sites 16 8) ≡
+    175 ∷ 6 ∷ 176 ∷ 152 ∷ 239 ∷ 255 ∷ 178 ∷ 255 ∷ 240 ∷ []
+unfolding first_bytes log2_of lps_width next_variable first_variables shift_of sites
+slice_of_16x8 = refl
+
+slice_of_72x56 : slice_payload 0 (sites 72 56) ≡
+    175 ∷ 6 ∷ 176 ∷ 152 ∷ 127 ∷ 255 ∷ 101 ∷ 254 ∷ 211 ∷ 249 ∷ 191 ∷ 188 ∷ 120 ∷ 189 ∷ 125 ∷ 33 ∷
+    225 ∷ 130 ∷ 223 ∷ 222 ∷ 112 ∷ 120 ∷ 116 ∷ 80 ∷ 12 ∷ 103 ∷ 71 ∷ []
+unfolding first_bytes log2_of lps_width next_variable first_variables shift_of sites
+slice_of_72x56 = refl
+
+slice_of_136x72 : slice_payload 0 (sites 136 72) ≡
+    175 ∷ 6 ∷ 176 ∷ 152 ∷ 127 ∷ 255 ∷ 250 ∷ 188 ∷ 191 ∷ 236 ∷ 69 ∷ 254 ∷ 223 ∷ 242 ∷ 30 ∷ 173 ∷
+    175 ∷ 164 ∷ 67 ∷ 74 ∷ 243 ∷ 143 ∷ 239 ∷ 118 ∷ 252 ∷ 40 ∷ 92 ∷ 153 ∷ 23 ∷ 86 ∷ 167 ∷ 191 ∷ 76 ∷
+    []
+unfolding first_bytes log2_of lps_width next_variable first_variables shift_of sites
+slice_of_136x72 = refl
+
+slice_of_256x192 : slice_payload 0 (sites 256 192) ≡
+    175 ∷ 6 ∷ 176 ∷ 152 ∷ 127 ∷ 255 ∷ 250 ∷ 188 ∷ 191 ∷ 236 ∷ 9 ∷ 247 ∷ 159 ∷ 16 ∷ 26 ∷ 93 ∷ 227 ∷
+    115 ∷ 202 ∷ 155 ∷ 22 ∷ 135 ∷ 133 ∷ 138 ∷ []
+unfolding first_bytes log2_of lps_width next_variable first_variables shift_of sites
+slice_of_256x192 = refl
+
+slice_of_64x136 : slice_payload 0 (sites 64 136) ≡
+    175 ∷ 6 ∷ 176 ∷ 152 ∷ 127 ∷ 255 ∷ 250 ∷ 188 ∷ 191 ∷ 236 ∷ 69 ∷ 254 ∷ 223 ∷ 242 ∷ 30 ∷ 173 ∷
+    175 ∷ 164 ∷ 67 ∷ 75 ∷ 179 ∷ []
+unfolding first_bytes log2_of lps_width next_variable first_variables shift_of sites
+slice_of_64x136 = refl

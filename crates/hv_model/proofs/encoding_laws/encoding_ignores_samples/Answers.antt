@@ -1,0 +1,5 @@
+use Rattle.hv_model.proofs.EncodingLaws.{encoding_ignores}
+use Rattle.hv_model.proofs.encoding_laws.encoding_ignores_samples.Goals as goal
+
+pub returns : goal.returns
+returns c = encoding_ignores

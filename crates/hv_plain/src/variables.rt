@@ -3,7 +3,8 @@ ghost use Rattle.std.specs.Prelude.{◌≡◌, ◌+◌, ◌*◌, ◌/◌, ◌%�
 ghost use Rattle.std.specs.Int.{int_shr};
 ghost use Rattle.hv_model.specs.ArithmeticTables.{transIdxLps};
 ghost use Rattle.hv_model.specs.ContextTables.{tables, values_of};
-ghost use Rattle.hv_model.specs.Contexts.{clip3, preCtxState, first_variable, first_variables, lps_width, after_mps, after_lps, next_variable};
+ghost use Rattle.hv_model.specs.Clipping.{clip3};
+ghost use Rattle.hv_model.specs.Contexts.{preCtxState, first_variable, first_variables, lps_width, after_mps, after_lps, next_variable};
 
 use crate::tables::{INIT_VALUE_I, INIT_VALUE_P, RANGE_TAB_LPS, TRANS_IDX_LPS};
 use hv_types::SliceKind;

@@ -1,7 +1,7 @@
 -- Emulation prevention, a piece at a time: the bytes out are followed by those from `from` up to
 -- the place i, and by what is
 -- made of the others.
-use Rattle.std.proofs.Common.{◌≡◌, ◌≢◌, ℕ, ◌+◌, ◌-◌, ◌<◌, ◌≤◌, Bool, false, ◌&&◌, List, [], ◌∷◌, ◌++◌, length, get_or, take, drop, refl, sym, ap, ◌∙◌, arith, lt-ltb, le-ltb, eq-eqb, append_assoc, append-nil, length-drop}
+use Rattle.std.proofs.Common.{◌≡◌, ◌≢◌, ℕ, ◌+◌, ◌-◌, ◌<◌, ◌≤◌, Bool, false, ◌&&◌, List, [], ◌∷◌, ◌++◌, length, get_or, take, drop, refl, sym, ap, subst, ◌∙◌, arith, lt-ltb, le-ltb, eq-eqb, append_assoc, append-nil, length-drop}
 use Rattle.std.specs.Prelude.{nat_lt, nat_eq}
 use Rattle.std.proofs.lemmas.Bool.{and_left, and_right, cond-true, cond-false, cond_both, ne_eqb}
 use Rattle.std.proofs.lemmas.List.{take_more, drop_more, get_or-drop}
@@ -126,3 +126,51 @@ strip_left bytes out all from i run l a b e =
     ap (λ w. before ++ w ++ strip_after 0 (drop (i + 1) bytes)) none ∙
     ap (λ w. w ++ strip_after 0 (drop (i + 1) bytes)) (append-nil before) ∙
     ap (λ w. before ++ w) (sym here) ∙ e
+
+-- ---- three bytes at once, of which the third is large
+
+pub escape_three_kept : (bytes out all : List ℕ) (from i run : ℕ) → from ≤ i → i + 3 < length bytes →
+    run ≡ 0 → 4 ≤ get_or bytes (i + 2) 0 →
+    out ++ take (i - from) (drop from bytes) ++ escape_after run (drop i bytes) ≡ all →
+    out ++ take (i + 3 - from) (drop from bytes) ++ escape_after run (drop (i + 3) bytes) ≡ all
+escape_three_kept bytes out all from i run h l none large e =
+    let x : ℕ = get_or bytes i 0 in
+    let y : ℕ = get_or bytes (i + 1) 0 in
+    let z : ℕ = get_or bytes (i + 1 + 1) 0 in
+    let one : ℕ = run_after run x in
+    let two : ℕ = run_after one y in
+    let third : i + 2 ≡ i + 1 + 1 = omega arith in
+    let last : i + 1 + 1 + 1 ≡ i + 3 = omega arith in
+    let large_z : 4 ≤ z = subst (λ k. 4 ≤ get_or bytes k 0) third large in
+    let after : run_after two z ≡ run = run_other two z (λ zero. absurd (omega (arith, zero))) ∙ sym none in
+    let e1 = escape_kept bytes out all from i run h (omega arith)
+    (short_run run (nat_lt x 4) (omega arith)) e in
+    let e2 = escape_kept bytes out all from (i + 1) one (omega arith) (omega arith)
+    (short_run one (nat_lt y 4) (omega (arith, run_after-le run x))) e1 in
+    let e3 = escape_kept bytes out all from (i + 1 + 1) two (omega arith) (omega arith)
+    (large_byte two z large_z) e2 in
+    let e4 = subst (λ r. out ++ take (i + 1 + 1 + 1 - from) (drop from bytes) ++
+    escape_after r (drop (i + 1 + 1 + 1) bytes) ≡ all) after e3 in
+    subst (λ m. out ++ take (m - from) (drop from bytes) ++ escape_after run (drop m bytes) ≡ all) last e4
+
+pub strip_three_kept : (bytes out all : List ℕ) (from i run : ℕ) → from ≤ i → i + 3 < length bytes →
+    run ≡ 0 → 4 ≤ get_or bytes (i + 2) 0 →
+    out ++ take (i - from) (drop from bytes) ++ strip_after run (drop i bytes) ≡ all →
+    out ++ take (i + 3 - from) (drop from bytes) ++ strip_after run (drop (i + 3) bytes) ≡ all
+strip_three_kept bytes out all from i run h l none large e =
+    let x : ℕ = get_or bytes i 0 in
+    let y : ℕ = get_or bytes (i + 1) 0 in
+    let z : ℕ = get_or bytes (i + 1 + 1) 0 in
+    let one : ℕ = run_after run x in
+    let two : ℕ = run_after one y in
+    let third : i + 2 ≡ i + 1 + 1 = omega arith in
+    let last : i + 1 + 1 + 1 ≡ i + 3 = omega arith in
+    let large_z : 4 ≤ z = subst (λ k. 4 ≤ get_or bytes k 0) third large in
+    let after : run ≡ run_after two z = none ∙ sym (run_other two z (λ zero. absurd (omega (arith, zero)))) in
+    let e1 = strip_kept bytes out all from i run one h (omega arith)
+    (short_run run (nat_eq x 3) (omega arith)) refl e in
+    let e2 = strip_kept bytes out all from (i + 1) one two (omega arith) (omega arith)
+    (short_run one (nat_eq y 3) (omega (arith, run_after-le run x))) refl e1 in
+    let e3 = strip_kept bytes out all from (i + 1 + 1) two run (omega arith) (omega arith)
+    (other_byte two z (λ three. absurd (omega (arith, three)))) after e2 in
+    subst (λ m. out ++ take (m - from) (drop from bytes) ++ strip_after run (drop m bytes) ≡ all) last e3

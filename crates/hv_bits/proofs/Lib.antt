@@ -2,3 +2,4 @@ mod Putting
 mod Reading
 mod Escaping
 pub mod WritingLaws
+mod FieldLists

@@ -2,10 +2,12 @@
 //! Annex B).
 #![tactic(auto)]
 
+mod fields;
 mod reader;
 mod unit;
 mod writer;
 
+pub use fields::{Field, put_fields, tables_join};
 pub use reader::{BitReader, BitsError};
 pub use unit::{strip_nal, write_nal};
 pub use writer::BitWriter;

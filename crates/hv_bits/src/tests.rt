@@ -133,3 +133,55 @@ fn powers_of_two(rt: HostRuntime) -> Result<(), Fail> {
     assert_eq!(rt; reader.bits(8), Ok(255));
     Ok(())
 }
+
+/// Puts fields of all kinds, 42 bytes of them, so that the writer grows several times.
+fn fields_of_all_kinds(alloc: Global) -> Result<Vec<u8>, NoMemory> {
+    let mut writer = BitWriter::new(alloc);
+    for k in 0..8u8 {
+        writer.put(0x8765_4321, 32);
+        writer.ue(u32::from(k));
+        writer.se(-i32::from(k));
+    }
+    writer.trail();
+    writer.finish()
+}
+
+/// The fields are whole, or the answer is that memory was wanted, now or at an earlier growth.
+fn see_fields(rt: &impl Abort, alloc: Global) {
+    match fields_of_all_kinds(alloc) {
+        Ok(bytes) => {
+            assert_eq!(rt; bytes.len(), 42);
+            let mut reader = BitReader::new(&bytes);
+            for k in 0..8u8 {
+                assert_eq!(rt; reader.bits(32), Ok(0x8765_4321));
+                assert_eq!(rt; reader.ue(), Ok(u64::from(k)));
+                assert_eq!(rt; reader.ue(), Ok(2 * u64::from(k)));
+            }
+            assert_eq!(rt; reader.bits(1), Ok(1));
+        }
+        Err(error) => assert_eq!(rt; error, NoMemory),
+    }
+}
+
+/// The same of a unit, and of its payload.
+fn see_unit(rt: &impl Abort, alloc: Global) {
+    let payload = [0, 0, 0, 0, 0, 0, 0, 0, 0, 0, 0, 0x80];
+    let unit = [
+        0, 0, 0, 1, 0x50, 1, 0, 0, 3, 0, 0, 3, 0, 0, 3, 0, 0, 3, 0, 0, 3, 0, 0x80,
+    ];
+    match write_nal(alloc, 40, 0, &payload) {
+        Ok(bytes) => assert_eq!(rt; bytes.as_slice(), unit.as_slice()),
+        Err(error) => assert_eq!(rt; error, NoMemory),
+    }
+    match strip_nal(alloc, &unit[4..]) {
+        Ok(bytes) => assert_eq!(rt; bytes.as_slice(), payload.as_slice()),
+        Err(error) => assert_eq!(rt; error, NoMemory),
+    }
+}
+
+/// Whichever allocation is refused, a call gives all its bytes or says so.
+#[test]
+fn answers_want_of_memory(rt: HostRuntime) {
+    see_fields(&rt, rt.alloc());
+    see_unit(&rt, rt.alloc());
+}

@@ -1,5 +1,5 @@
 // NAL units, and emulation prevention.
-ghost use Rattle.std.specs.Prelude.{◌≡◌, ◌≢◌, ◌<◌, ◌≤◌, ◌++◌, length, drop, IfOk, OnOk};
+ghost use Rattle.std.specs.Prelude.{◌≡◌, ◌≢◌, ◌+◌, ◌<◌, ◌≤◌, ◌++◌, length, drop, slice_index, IfOk, OnOk, IsTrue};
 ghost use Rattle.hv_model.specs.Units.{unit_bytes, last_of, escape, strip};
 
 use hv_types::NoMemory;
@@ -37,9 +37,19 @@ pub fn strip_nal(alloc: Global, unit: &[u8]) -> Result<Vec<u8>, NoMemory>
     requires { 2 ≤ length unit.now }
     ensures { IfOk result (λ bytes. bytes.items ≡ strip (drop 2 unit.now)) }
 {
-    let mut bytes = Vec::new(alloc);
+    let mut bytes = Vec::with_capacity(alloc, unit.len() - 2)?;
     put_stripped(&mut bytes, &unit[2..])?;
     Ok(bytes)
+}
+
+// Whether the third byte from a place on is none that an emulation prevention byte stands before,
+// and isn't the last. Where no zero byte is before that place, all three stay as they are.
+#[inline(always)]
+fn third_is_large(bytes: &[u8], at: usize) -> bool
+    requires { at < length bytes.now }
+    ensures { IsTrue result → (at + 3 < length bytes.now) × (4 ≤ slice_index bytes.now (at + 2)) }
+{
+    at + 3 < bytes.len() && bytes[at + 2] > LARGEST_ESCAPED
 }
 
 // Adds a payload with its emulation prevention bytes.
@@ -48,14 +58,19 @@ fn put_escaped(bytes: &mut Vec<u8>, payload: &[u8]) -> Result<(), AllocError>
 {
     let mut from = 0;
     let mut zeros = 0usize;
-    for (i, byte) in payload.iter().enumerate() {
-        if zeros > 1 && *byte <= LARGEST_ESCAPED {
-            bytes.extend_from_slice(&payload[from..i])?;
+    let mut at = 0;
+    while at < payload.len() {
+        while zeros == 0 && third_is_large(payload, at) {
+            at += 3;
+        }
+        if zeros > 1 && payload[at] <= LARGEST_ESCAPED {
+            bytes.extend_from_slice(&payload[from..at])?;
             bytes.push(THREE_BYTE)?;
-            from = i;
+            from = at;
             zeros = 0;
         }
-        zeros = if *byte == 0 { zeros + 1 } else { 0 };
+        zeros = if payload[at] == 0 { zeros + 1 } else { 0 };
+        at += 1;
     }
     bytes.extend_from_slice(&payload[from..])
 }
@@ -66,14 +81,19 @@ fn put_stripped(bytes: &mut Vec<u8>, escaped: &[u8]) -> Result<(), AllocError>
 {
     let mut from = 0;
     let mut run = 0usize;
-    for (i, byte) in escaped.iter().enumerate() {
-        if run > 1 && *byte == THREE_BYTE {
-            bytes.extend_from_slice(&escaped[from..i])?;
-            from = i + 1;
+    let mut at = 0;
+    while at < escaped.len() {
+        while run == 0 && third_is_large(escaped, at) {
+            at += 3;
+        }
+        if run > 1 && escaped[at] == THREE_BYTE {
+            bytes.extend_from_slice(&escaped[from..at])?;
+            from = at + 1;
             run = 0;
         } else {
-            run = if *byte == 0 { run + 1 } else { 0 };
+            run = if escaped[at] == 0 { run + 1 } else { 0 };
         }
+        at += 1;
     }
     bytes.extend_from_slice(&escaped[from..])
 }

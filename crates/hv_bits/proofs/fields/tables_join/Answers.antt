@@ -1,0 +1,5 @@
+use Rattle.hv_bits.proofs.FieldLists.{tables_joined}
+use Rattle.hv_bits.proofs.fields.tables_join.Goals as goal
+
+pub returns : goal.returns
+returns c = tables_joined c.joined_fields_have_joined_bits.ensures

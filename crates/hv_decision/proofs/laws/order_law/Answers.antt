@@ -1,0 +1,5 @@
+use Rattle.hv_decision.proofs.Orders.{orders}
+use Rattle.hv_decision.proofs.laws.order_law.Goals as goal
+
+pub returns : goal.returns
+returns c = orders

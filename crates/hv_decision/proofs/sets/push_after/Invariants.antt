@@ -1,0 +1,13 @@
+use Rattle.std.proofs.Common.{◌≡◌, map, ◌++◌, ◌-◌, length}
+use Rattle.hv_model.specs.Structure.{kept_among, place_in, rising, set_in}
+use Rattle.hv_decision.specs.Coding.{coded_as}
+use Rattle.hv_decision.specs.Sets.{entry_after}
+use Rattle.hv_decision.proofs.sets.push_after.Given as goal
+
+abbrev pub invariant-loop-other : goal.invariant-loop-other
+invariant-loop-other l =
+    l.entries.items ++ map entry_after
+    (kept_among (map coded_as l.order) (place_in (map coded_as l.order) l.picture) l.picture
+    (rising (length l.order - l.other) l.other)) ≡
+    l.initial.entries.items ++ map entry_after
+    (set_in (map coded_as l.order) (length l.order) l.picture).after

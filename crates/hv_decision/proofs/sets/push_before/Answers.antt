@@ -1,0 +1,60 @@
+use Rattle.std.proofs.Common.{◌∙◌, sym, ap, map, ◌++◌, ◌-◌, arith}
+use Rattle.hv_model.specs.Structure.{falling}
+use Rattle.hv_decision.specs.Sets.{entry_before}
+use Rattle.hv_decision.proofs.SetLaws.{length_lives, place_at, entry_step, falling_more, kept_of}
+use Rattle.hv_decision.proofs.sets.push_before.Goals as goal
+
+pub bounds-lives-from : goal.bounds-lives-from
+bounds-lives-from c =
+    omega (
+      arith,
+      length_lives c.args.order.now c.args.lives.now c.requires.lives,
+      c.from.ensures,
+      c.requires.picture,
+    )
+
+pub offset_bounds-order-from : goal.offset_bounds-order-from
+offset_bounds-order-from c =
+    omega (
+      arith,
+      c.requires.most,
+      c.from-2.ensures,
+      c.requires.coded,
+      place_at c.args.order.now c.args.picture c.from.result c.args.lives.now c.requires.lives
+          c.requires.picture c.from.ensures,
+    )
+
+pub bounds-order-from : goal.bounds-order-from
+bounds-order-from c =
+    omega (
+      arith,
+      c.from-2.ensures,
+      c.requires.coded,
+      place_at c.args.order.now c.args.picture c.from.result c.args.lives.now c.requires.lives
+          c.requires.picture c.from.ensures,
+    )
+
+pub bounds-lives-from-in-loop-other : goal.bounds-lives-from-in-loop-other
+bounds-lives-from-in-loop-other c =
+    omega (
+      arith,
+      length_lives c.args.order.now c.args.lives.now c.requires.lives,
+      c.from-in-loop-other.ensures,
+      c.loop-other-test.true,
+      c.loop-other.auto,
+      c.requires.picture,
+    )
+
+pub loop-other-preserved : goal.loop-other-preserved
+loop-other-preserved c =
+    entry_step entry_before c.args.order.now c.args.picture (c.loop-other.other - 1) c.from.result
+    c.from-2.result c.from-in-loop-other.result (falling (c.loop-other.other - 1)) _
+    c.args.lives.now c.entry.result c.loop-other.entries.items c.push_kept.new.entries.items _
+    c.requires.lives c.requires.picture
+    (omega (arith, c.loop-other.auto.other, c.requires.picture)) c.requires.coded
+    c.from.ensures c.from-2.ensures c.from-in-loop-other.ensures
+    (c.entry.ensures.before (omega (arith, c.loop-other-test.true, c.loop-other.auto.other)))
+    c.in_ok-push_kept.ensures
+    (sym (ap (λ t. c.loop-other.entries.items ++
+    map entry_before (kept_of c.args.order.now c.args.picture t))
+    (falling_more c.loop-other.other c.loop-other-test.true)) ∙ c.loop-other.invariant)

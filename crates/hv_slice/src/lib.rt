@@ -1,0 +1,10 @@
+//! Slice headers (7.3.6 of H.265), written.
+#![tactic(auto)]
+
+mod header;
+mod references;
+
+pub use header::write_slice_header;
+
+#[cfg(test)]
+mod tests;

@@ -1,0 +1,10 @@
+pub mod Sides
+pub mod SmoothedLines
+pub mod Rows
+pub mod Sums
+pub mod Prediction
+pub mod StraightModes
+pub mod ReferenceLists
+pub mod Interpolation
+pub mod Signed
+pub mod Facts

@@ -1,0 +1,97 @@
+-- Blocks that are filled by rows.
+use Rattle.std.proofs.Common.{◌≡◌, ℕ, zero, suc, ◌+◌, ◌-◌, ◌*◌, ◌^◌, ◌<◌, ◌≤◌, List, [], ◌∷◌, ◌++◌, length, take, drop, get_or, refl, sym, ap, ap₂, ◌∙◌, arith, subst, inl, inr, mul-le-mul_right}
+use Rattle.std.specs.Prelude.{◌⊎◌}
+use Rattle.std.specs.List.{flat_map}
+use Rattle.std.proofs.lemmas.Bool.{cases_lt}
+use Rattle.std.proofs.lemmas.List.{get_or_append_left, get_or-append_right, get_or-take, get_or-drop, length-take-le, length-take, length-drop, take-append-drop}
+use borrow.Rule.Slice.PartMut.{put_mid, post_of}
+use Rattle.hv_types.specs.Samples.{tabulate}
+use Rattle.hv_model.specs.Blocks.{square}
+use Rattle.hv_intra.specs.Blocks.{IsRow, HasRows}
+
+row_below : (y z n : ℕ) → y < z → y * n + n ≤ z * n
+row_below y z n h =
+    let m : suc y * n ≤ z * n = mul-le-mul_right n h in omega (arith, m)
+
+-- a row written behind those that are right
+pub rows_more : (n y k : ℕ) (block row : List ℕ) (f : ℕ → ℕ → ℕ) → length row ≡ n →
+    y * n + n ≤ length block → HasRows n y f block → IsRow n (λ x. f x y) row →
+    HasRows n (y + 1) f (put_mid (y * n) k block row)
+rows_more n y k block row f count room rows right = λ x z inside below. go x z inside below (cases_lt z y)
+  where
+    front : length (take (y * n) block) ≡ y * n
+    front = length-take-le (y * n) block (omega arith)
+
+    go : (x z : ℕ) → x < n → z < y + 1 → (z < y) ⊎ (y ≤ z) →
+        get_or (put_mid (y * n) k block row) (z * n + x) 0 ≡ f x z
+    go x z inside below (inl h) =
+        let m = row_below z y n h in
+        get_or_append_left (take (y * n) block) (row ++ post_of (y * n) k block) 0 (z * n + x)
+        (omega (arith, front, m)) ∙
+        get_or-take (y * n) block (z * n + x) 0 (omega (arith, m)) ∙ rows x z inside h
+    go x z inside below (inr h) =
+        let same : z ≡ y = omega arith in
+        let at : z * n + x - y * n ≡ x = rw same (omega arith) in
+        get_or-append_right (take (y * n) block) (row ++ post_of (y * n) k block) (y * n) (z * n + x) 0
+        front (rw same (omega arith)) ∙
+        ap (λ (i : ℕ). get_or (row ++ post_of (y * n) k block) i 0) at ∙
+        get_or_append_left row (post_of (y * n) k block) 0 x (omega arith) ∙
+        right x inside ∙ ap (f x) (sym same)
+
+-- the length of a row of a block
+pub length-row : (n m y : ℕ) (block : List ℕ) → m ≡ n → y < m → n * n ≤ length block →
+    length (take (y * m + m - y * m) (drop (y * m) block)) ≡ n
+length-row n m y block e below all =
+    let h : y < n = omega arith in
+    let room : y * n + n ≤ length block = omega (arith, row_below y n n h, all) in
+    length-take (y * m + m - y * m) (drop (y * m) block) ∙
+    rw (length-drop (y * m) block, e) (omega (arith, room))
+
+-- the same, where the code computed the side
+pub rows_written : (n m y : ℕ) (block row : List ℕ) (f : ℕ → ℕ → ℕ) → m ≡ n → y < m →
+    n * n ≤ length block →
+    length row ≡ length (take (y * m + m - y * m) (drop (y * m) block)) → HasRows n y f block →
+    IsRow n (λ x. f x y) row → HasRows n (y + 1) f (put_mid (y * m) (y * m + m - y * m) block row)
+rows_written n m y block row f e below all count rows right =
+    let h : y < n = omega arith in
+    let room : y * n + n ≤ length block = omega (arith, row_below y n n h, all) in
+    let side : length row ≡ n = count ∙ length-row n m y block e below all in
+    subst (λ (j : ℕ). HasRows n (y + 1) f (put_mid (y * j) (y * m + m - y * m) block row)) (sym e)
+    (rows_more n y (y * m + m - y * m) block row f side room rows right)
+
+-- ---- whole blocks
+row_is : (n : ℕ) (f : ℕ → ℕ) (row : List ℕ) → length row ≡ n → IsRow n f row → row ≡ tabulate n f
+unfolding tabulate
+row_is zero f [] count right = refl
+row_is zero f (x ∷ row) count right = absurd (omega arith)
+row_is (suc n) f [] count right = absurd (omega arith)
+row_is (suc n) f (x ∷ row) count right =
+    ap₂ (λ (y : ℕ) (ys : List ℕ). y ∷ ys) (right 0 (omega arith))
+    (row_is n (λ i. f (suc i)) row (omega arith) (λ i h. right (suc i) (omega arith)))
+
+rows_are : (n rows : ℕ) (f : ℕ → ℕ → ℕ) (block : List ℕ) → length block ≡ rows * n →
+    HasRows n rows f block →
+    block ≡ flat_map (λ row. row) (tabulate rows (λ y. tabulate n (λ x. f x y)))
+unfolding tabulate
+rows_are n zero f [] count right = refl
+rows_are n zero f (x ∷ block) count right = absurd (omega arith)
+rows_are n (suc rows) f block count right =
+    let room : n ≤ length block = omega arith in
+    let head : take n block ≡ tabulate n (λ x. f x 0) =
+    row_is n (λ x. f x 0) (take n block) (length-take-le n block room)
+    (λ x h. get_or-take n block x 0 h ∙
+    ap (λ (i : ℕ). get_or block i 0) (omega arith) ∙ right x 0 h (omega arith)) in
+    let rest : drop n block ≡ flat_map (λ row. row) (tabulate rows (λ y. tabulate n (λ x. f x (suc y)))) =
+    rows_are n rows (λ x y. f x (suc y)) (drop n block) (omega (arith, length-drop n block))
+    (λ x y h k. get_or-drop n block (y * n + x) 0 ∙
+    ap (λ (i : ℕ). get_or block i 0) (omega arith) ∙ right x (suc y) h (omega arith)) in
+    sym (take-append-drop n block) ∙ ap₂ (λ (xs ys : List ℕ). xs ++ ys) head rest
+
+-- a block with every row right
+pub block_is : (log2 : ℕ) (f : ℕ → ℕ → ℕ) (block : List ℕ) → length block ≡ 2 ^ log2 * 2 ^ log2 →
+    HasRows (2 ^ log2) (2 ^ log2) f block → block ≡ square log2 f
+block_is log2 f block count right = rows_are (2 ^ log2) (2 ^ log2) f block count right
+
+pub rows_same : (n rows : ℕ) (f g : ℕ → ℕ → ℕ) (block : List ℕ) →
+    ((x y : ℕ) → x < n → y < rows → f x y ≡ g x y) → HasRows n rows f block → HasRows n rows g block
+rows_same n rows f g block same right = λ x y h k. right x y h k ∙ same x y h k

@@ -1,0 +1,39 @@
+use Rattle.std.proofs.Common.{◌≡◌, ◌^◌, ◌<◌, ◌*◌, ◌+◌, ◌-◌, ℕ, List, arith, subst, length, take, drop}
+use Rattle.hv_intra.specs.Blocks.{IsRow}
+use Rattle.hv_intra.specs.References.{first, part, sample_between}
+use Rattle.hv_intra.proofs.Facts.{row_facts}
+use Rattle.hv_intra.proofs.Sides.{side_few}
+use Rattle.hv_intra.proofs.Rows.{rows_written, length-row}
+use Rattle.hv_intra.proofs.angular.fill_rows.Goals as goal
+
+pub fill_row-requires-clause-inside : goal.fill_row-requires-clause-inside
+fill_row-requires-clause-inside c =
+    let r = c.requires in
+    let few = side_few c.args.log2 r.least r.most in
+    let below : c.loop-y.y < 2 ^ c.args.log2 = omega (arith, c.loop-y-test.true, c.side-n.ensures.value) in
+    let f = row_facts c.args.log2 c.args.mode c.loop-y.y r.least r.most r.first r.last below in
+    let count = length-row (2 ^ c.args.log2) c.side-n.result c.loop-y.y c.loop-y.out c.side-n.ensures.value
+    c.loop-y-test.true (omega arith) in
+    omega (arith, few, f.most, count, c.first.ensures, r.reference)
+
+pub loop-y-preserved : goal.loop-y-preserved
+loop-y-preserved c =
+    let log2 : ℕ = c.args.log2 in
+    let mode : ℕ = c.args.mode in
+    let y : ℕ = c.loop-y.y in
+    let reference : List ℕ = c.args.reference.now in
+    let count : length (take (y * c.side-n.result + c.side-n.result - y * c.side-n.result)
+    (drop (y * c.side-n.result) c.loop-y.out)) ≡ 2 ^ log2 =
+    length-row (2 ^ log2) c.side-n.result y c.loop-y.out c.side-n.ensures.value c.loop-y-test.true
+    (omega arith) in
+    let long : IsRow (2 ^ log2) (sample_between reference c.first.result c.part.result) c.fill_row.new.row =
+    subst (λ (n : ℕ). IsRow n (sample_between reference c.first.result c.part.result) c.fill_row.new.row)
+    count c.fill_row.ensures in
+    let row : IsRow (2 ^ log2) (sample_between reference (first log2 mode y) (part mode y)) c.fill_row.new.row =
+    subst (λ (p : ℕ). IsRow (2 ^ log2) (sample_between reference (first log2 mode y) p) c.fill_row.new.row)
+    c.part.ensures.value
+    (subst (λ (f : ℕ). IsRow (2 ^ log2) (sample_between reference f c.part.result) c.fill_row.new.row)
+    c.first.ensures long) in
+    rows_written (2 ^ log2) c.side-n.result y c.loop-y.out c.fill_row.new.row
+    (λ x y. sample_between reference (first log2 mode y) (part mode y) x) c.side-n.ensures.value
+    c.loop-y-test.true (omega arith) c.fill_row.auto.row c.loop-y.invariant row

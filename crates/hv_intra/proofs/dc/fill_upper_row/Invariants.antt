@@ -1,0 +1,7 @@
+use Rattle.std.proofs.Common.{true}
+use Rattle.hv_intra.specs.Blocks.{IsRow}
+use Rattle.hv_model.specs.IntraPrediction.{dc}
+use Rattle.hv_intra.proofs.dc.fill_upper_row.Given as goal
+
+abbrev pub invariant-loop-x : goal.invariant-loop-x
+invariant-loop-x l = IsRow l.x (λ x. dc l.log2 true l.line x 0) l.row

@@ -1,0 +1,10 @@
+use Rattle.std.proofs.Common.{◌≡◌, ◌≤◌, ◌+◌, ◌*◌}
+use Rattle.hv_model.specs.IntraPrediction.{left, above}
+use Rattle.hv_model.specs.Blocks.{total_of}
+use Rattle.hv_intra.proofs.dc.mean.Given as goal
+
+abbrev pub invariant-loop-i : goal.invariant-loop-i
+invariant-loop-i l = record {
+  all : l.sum ≡ total_of l.i (λ i. above l.log2 l.line (i + 1) + left l.log2 l.line (i + 1));
+  few : l.sum ≤ 510 * l.i;
+}

@@ -1,0 +1,6 @@
+use Rattle.hv_intra.specs.Blocks.{IsRow}
+use Rattle.hv_model.specs.IntraPrediction.{planar}
+use Rattle.hv_intra.proofs.planar.fill_row.Given as goal
+
+abbrev pub invariant-loop-x : goal.invariant-loop-x
+invariant-loop-x l = IsRow l.x (λ x. planar l.log2 l.line x l.y) l.row

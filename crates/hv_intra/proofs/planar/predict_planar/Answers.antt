@@ -1,0 +1,10 @@
+use Rattle.std.proofs.Common.{◌^◌, arith}
+use Rattle.hv_model.specs.IntraPrediction.{planar}
+use Rattle.hv_intra.proofs.Rows.{rows_written}
+use Rattle.hv_intra.proofs.planar.predict_planar.Goals as goal
+
+pub loop-y-preserved : goal.loop-y-preserved
+loop-y-preserved c =
+    rows_written (2 ^ c.args.log2) c.side-n.result c.loop-y.y c.loop-y.out c.fill_row.new.row
+    (planar c.args.log2 c.args.line.now) c.side-n.ensures.value c.loop-y-test.true (omega arith)
+    c.fill_row.auto.row c.loop-y.invariant c.fill_row.ensures

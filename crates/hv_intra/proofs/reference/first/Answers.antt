@@ -1,0 +1,24 @@
+use Rattle.std.proofs.Common.{◌≡◌, ◌+◌, ap, ap₂, sym, ◌∙◌, arith, ℕ}
+use Rattle.std.specs.Prelude.{ℤ, pos, ◌+ℤ◌}
+use Rattle.std.specs.Int.RustNames.{unsigned_abs}
+use Rattle.hv_intra.specs.References.{first}
+use Rattle.hv_intra.proofs.Signed.{first_is}
+use Rattle.hv_intra.proofs.Facts.{row_facts}
+use Rattle.hv_intra.proofs.Sides.{side_few}
+use Rattle.hv_intra.proofs.reference.first.Goals as goal
+
+pub overflow_cast-result-2 : goal.overflow_cast-result-2
+overflow_cast-result-2 c =
+    let r = c.requires in
+    let f = row_facts c.args.log2 c.args.mode c.args.across r.least r.most r.first r.last r.row in
+    let few = side_few c.args.log2 r.least r.most in
+    let e : pos (c.side.result + 1) +ℤ c.shift.result ≡ pos (first c.args.log2 c.args.mode c.args.across) =
+    ap₂ (λ (n : ℕ) (s : ℤ). pos (n + 1) +ℤ s) c.side.ensures.value c.shift.ensures.value ∙ sym f.is in
+    rw (first_is c.side.result c.shift.result c.side.ensures.few c.shift.ensures.small, e)
+    (tt, omega (arith, f.most, few))
+
+pub returns : goal.returns
+unfolding first
+returns c =
+    ap unsigned_abs (first_is c.side.result c.shift.result c.side.ensures.few c.shift.ensures.small) ∙
+    ap₂ (λ (n : ℕ) (s : ℤ). unsigned_abs (pos (n + 1) +ℤ s)) c.side.ensures.value c.shift.ensures.value

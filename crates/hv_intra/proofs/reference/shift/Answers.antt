@@ -1,0 +1,15 @@
+use Rattle.std.proofs.Common.{ap, ◌∙◌}
+use Rattle.std.specs.Prelude.{ℤ}
+use Rattle.std.specs.Int.{int_shr}
+use Rattle.hv_intra.specs.References.{shift}
+use Rattle.hv_intra.proofs.Signed.{shift_is, shifted_by_5}
+use Rattle.hv_intra.proofs.reference.shift.Goals as goal
+
+pub returns-clause-value : goal.returns-clause-value
+unfolding shift
+returns-clause-value c =
+    shift_is c.way.result c.way.ensures.small ∙ ap (λ (z : ℤ). int_shr z 5) c.way.ensures.value
+
+pub returns-clause-small : goal.returns-clause-small
+returns-clause-small c =
+    rw (shift_is c.way.result c.way.ensures.small) (shifted_by_5 c.way.result c.way.ensures.small)

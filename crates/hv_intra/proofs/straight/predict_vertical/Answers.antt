@@ -1,0 +1,10 @@
+use Rattle.std.proofs.Common.{◌^◌, arith, true}
+use Rattle.hv_model.specs.IntraPrediction.{angular}
+use Rattle.hv_intra.proofs.Rows.{rows_written}
+use Rattle.hv_intra.proofs.straight.predict_vertical.Goals as goal
+
+pub loop-y-preserved : goal.loop-y-preserved
+loop-y-preserved c =
+    rows_written (2 ^ c.args.log2) c.side-n.result c.loop-y.y c.loop-y.out c.fill_vertical_row.new.row
+    (angular c.args.log2 26 true c.args.line.now) c.side-n.ensures.value c.loop-y-test.true (omega arith)
+    c.fill_vertical_row.auto.row c.loop-y.invariant c.fill_vertical_row.ensures

@@ -1,0 +1,125 @@
+// The angular modes.
+ghost use Rattle.std.specs.Prelude.{◌≡◌, ◌+◌, ◌*◌, ◌^◌, ◌<◌, ◌≤◌, length, slice_index};
+ghost use Rattle.hv_intra.specs.Blocks.{IsRow, HasRows};
+ghost use Rattle.hv_intra.specs.References.{first, part, blended, sample_between};
+ghost use Rattle.hv_model.specs.IntraPrediction.{left, above, interpolated};
+
+use crate::neighbours::side;
+use crate::reference::{PLACES, fill_from_above, fill_from_left, first, part};
+
+/// The sample between two neighbouring reference samples (8.4.4.2.6).
+#[inline(always)]
+fn blend(part: u8, a: u8, b: u8) -> u8
+    requires { part < 32 }
+    ensures { result ≡ blended part a b }
+{
+    ((u16::from(32 - part) * u16::from(a) + u16::from(part) * u16::from(b) + 16) / 32) as u8
+}
+
+/// A row from its first reference sample on.
+#[inline(always)]
+fn fill_row(reference: &[u8], first: usize, part: u8, row: &mut [u8])
+    requires part { part < 32 }
+    requires inside { first + length row.old < length reference.now }
+    ensures { IsRow (length row.old) (sample_between reference.now first part) row.new }
+{
+    let n = row.len();
+    if part == 0 {
+        row.copy_from_slice(&reference[first..first + n]);
+    } else {
+        for x in 0..n {
+            row[x] = blend(part, reference[first + x], reference[first + x + 1]);
+        }
+    }
+}
+
+/// The block by rows, from the reference samples of a mode that predicts from above; of another
+/// mode, its columns.
+#[inline(always)]
+fn fill_rows(reference: &[u8], log2: u8, mode: u8, out: &mut [u8])
+    requires least { 2 ≤ log2 }
+    requires most { log2 ≤ 5 }
+    requires first { 2 ≤ mode }
+    requires last { mode ≤ 34 }
+    requires reference { length reference.now ≡ 98 }
+    requires room { 2 ^ log2 * 2 ^ log2 ≤ length out.old }
+    ensures { HasRows (2 ^ log2) (2 ^ log2)
+        (λ x y. sample_between reference.now (first log2 mode y) (part mode y) x) out.new }
+{
+    let n = side(log2);
+    for y in 0..n {
+        fill_row(
+            reference,
+            first(log2, mode, y),
+            part(mode, y),
+            &mut out[y * n..y * n + n],
+        );
+    }
+}
+
+/// A mode that predicts from above.
+#[inline(always)]
+pub(crate) fn predict_from_above(line: &[u8], log2: u8, mode: u8, out: &mut [u8])
+    requires least { 2 ≤ log2 }
+    requires most { log2 ≤ 5 }
+    requires first { 2 ≤ mode }
+    requires last { mode ≤ 34 }
+    requires line { length line.now ≡ 4 * 2 ^ log2 + 1 }
+    requires room { length out.old ≡ 2 ^ log2 * 2 ^ log2 }
+    ensures { HasRows (2 ^ log2) (2 ^ log2)
+        (λ x y. interpolated (above log2 line.now) (left log2 line.now) mode x y) out.new }
+{
+    let mut reference = [0; PLACES];
+    fill_from_above(line, log2, mode, &mut reference);
+    fill_rows(&reference, log2, mode, out);
+}
+
+/// A row of a block from its columns.
+#[inline(always)]
+fn turn_row(columns: &[u8], n: usize, y: usize, row: &mut [u8])
+    requires side { n ≤ 32 }
+    requires row { y < n }
+    requires columns { n * n ≤ length columns.now }
+    requires room { length row.old ≡ n }
+    ensures { IsRow n (λ x. slice_index columns.now (x * n + y)) row.new }
+{
+    for x in 0..n {
+        row[x] = columns[x * n + y];
+    }
+}
+
+/// The rows of a block from its columns.
+#[inline(always)]
+fn turn(columns: &[u8], log2: u8, out: &mut [u8])
+    requires least { 2 ≤ log2 }
+    requires most { log2 ≤ 5 }
+    requires columns { 2 ^ log2 * 2 ^ log2 ≤ length columns.now }
+    requires room { length out.old ≡ 2 ^ log2 * 2 ^ log2 }
+    ensures { HasRows (2 ^ log2) (2 ^ log2)
+        (λ x y. slice_index columns.now (x * 2 ^ log2 + y)) out.new }
+{
+    let n = side(log2);
+    for y in 0..n {
+        turn_row(columns, n, y, &mut out[y * n..y * n + n]);
+    }
+}
+
+/// A mode that predicts from the left: its columns are made as the rows of the others are.
+#[inline(always)]
+#[tactic(auto, using(crate::proofs::Sides::square_few))]
+pub(crate) fn predict_from_left(line: &[u8], log2: u8, mode: u8, out: &mut [u8])
+    requires least { 2 ≤ log2 }
+    requires most { log2 ≤ 5 }
+    requires first { 2 ≤ mode }
+    requires last { mode ≤ 34 }
+    requires line { length line.now ≡ 4 * 2 ^ log2 + 1 }
+    requires room { length out.old ≡ 2 ^ log2 * 2 ^ log2 }
+    ensures { HasRows (2 ^ log2) (2 ^ log2)
+        (λ x y. interpolated (left log2 line.now) (above log2 line.now) mode y x) out.new }
+{
+    let mut reference = [0; PLACES];
+    fill_from_left(line, log2, mode, &mut reference);
+    let mut columns = [0; 1024];
+    fill_rows(&reference, log2, mode, &mut columns);
+    turn(&columns, log2, out);
+}

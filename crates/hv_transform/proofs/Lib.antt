@@ -1,0 +1,10 @@
+pub mod Sums
+pub mod Places
+pub mod Numbers
+pub mod Squares
+pub mod Weights
+pub mod InverseSteps
+pub mod Sizes
+pub mod ForwardSteps
+pub mod Powers
+pub mod Lists

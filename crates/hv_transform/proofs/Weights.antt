@@ -1,0 +1,87 @@
+-- How heavy rows and columns of the transform matrix are, computed over all of them.
+use Rattle.std.proofs.Common.{◌≡◌, ℕ, zero, suc, ◌+◌, ◌*◌, ◌^◌, ◌<◌, ◌≤◌, Bool, true, false, ◌&&◌, List, ℤ, pos, refl, sym, subst, ap, ap₂, arith, below_more, nat_le, slice_index_or}
+use Rattle.std.specs.Int.RustNames.{unsigned_abs}
+use Rattle.std.proofs.lemmas.Bool.{leb-true}
+use Rattle.hv_tables.specs.TransformMatrix.{transMatrix}
+use Rattle.hv_tables.specs.Tables.{HasEntries}
+use Rattle.hv_transform.specs.Passes.{WeighAtMost, table_row}
+use Rattle.hv_model.specs.Blocks.{total_of}
+
+abbrev all_below : ℕ → (ℕ → Bool) → Bool
+all_below zero p = true
+all_below (suc n) p = p n && all_below n p
+
+both : (a b : Bool) → a && b ≡ true → (a ≡ true) × (b ≡ true)
+both true b h = (refl, h)
+both false b h = absurd cc
+
+all_at : (n : ℕ) (p : ℕ → Bool) → all_below n p ≡ true → (i : ℕ) → i < n → p i ≡ true
+all_at zero p h i below = absurd (omega arith)
+all_at (suc n) p h i below =
+    let parts : (p n ≡ true) × (all_below n p ≡ true) = both (p n) (all_below n p) h in
+    let Holds : ℕ → Type 0 = λ k. p k ≡ true in
+    below_more Holds n (λ k less. all_at n p parts.1 k less) parts.0 i (omega arith)
+
+abbrev pub row_weight : ℕ → ℕ → ℕ
+row_weight log2 k = total_of (2 ^ log2) (λ n. unsigned_abs (transMatrix log2 k n))
+
+abbrev pub column_weight : ℕ → ℕ → ℕ
+column_weight log2 n = total_of (2 ^ log2) (λ k. unsigned_abs (transMatrix log2 k n))
+
+abbrev are_light : ℕ → Bool
+are_light log2 = all_below (2 ^ log2) (λ i. nat_le (row_weight log2 i) (64 * 2 ^ log2) && nat_le (column_weight log2 i) 2048)
+
+light_4 : are_light 2 ≡ true
+unfolding total_of
+light_4 = refl
+
+light_8 : are_light 3 ≡ true
+unfolding total_of
+light_8 = refl
+
+light_16 : are_light 4 ≡ true
+unfolding total_of
+light_16 = refl
+
+light_32 : are_light 5 ≡ true
+unfolding total_of
+light_32 = refl
+
+all_light : (log2 : ℕ) → 2 ≤ log2 → log2 ≤ 5 → are_light log2 ≡ true
+all_light zero least greatest = absurd (omega arith)
+all_light (suc zero) least greatest = absurd (omega arith)
+all_light (suc (suc zero)) least greatest = light_4
+all_light (suc (suc (suc zero))) least greatest = light_8
+all_light (suc (suc (suc (suc zero)))) least greatest = light_16
+all_light (suc (suc (suc (suc (suc zero))))) least greatest = light_32
+all_light (suc (suc (suc (suc (suc (suc m)))))) least greatest = absurd (omega arith)
+
+pub light : (log2 i : ℕ) → 2 ≤ log2 → log2 ≤ 5 → i < 2 ^ log2 → (row_weight log2 i ≤ 64 * 2 ^ log2) × (column_weight log2 i ≤ 2048)
+light log2 i least greatest inside =
+    let parts = both _ _ (all_at (2 ^ log2) (λ i. nat_le (row_weight log2 i) (64 * 2 ^ log2) && nat_le (column_weight log2 i) 2048) (all_light log2 least greatest) i inside) in
+    (leb-true _ _ parts.0, leb-true _ _ parts.1)
+
+total_of_same : (n : ℕ) (f g : ℕ → ℕ) → ((i : ℕ) → i < n → f i ≡ g i) → total_of n f ≡ total_of n g
+unfolding total_of
+total_of_same zero f g same = refl
+total_of_same (suc n) f g same =
+    ap₂ (λ a b. a + b) (total_of_same n f g (λ i below. same i (omega (arith, below)))) (same n (omega arith))
+
+-- tables of the matrix by rows and by columns
+light_rows : (log2 : ℕ) (table : List (List ℤ)) → 2 ≤ log2 → log2 ≤ 5 → HasEntries (2 ^ log2) (transMatrix log2) table → WeighAtMost (2 ^ log2) (64 * 2 ^ log2) table
+light_rows log2 table least greatest entries i below =
+    let same = total_of_same (2 ^ log2) (λ x. unsigned_abs (slice_index_or (table_row table i) x (pos 0))) (λ n. unsigned_abs (transMatrix log2 i n)) (λ x less. ap unsigned_abs (entries.each i x below less)) in
+    rw same (light log2 i least greatest below).0
+
+light_columns : (log2 : ℕ) (table : List (List ℤ)) → 2 ≤ log2 → log2 ≤ 5 → HasEntries (2 ^ log2) (λ n k. transMatrix log2 k n) table → WeighAtMost (2 ^ log2) 2048 table
+light_columns log2 table least greatest entries i below =
+    let same = total_of_same (2 ^ log2) (λ x. unsigned_abs (slice_index_or (table_row table i) x (pos 0))) (λ k. unsigned_abs (transMatrix log2 k i)) (λ x less. ap unsigned_abs (entries.each i x below less)) in
+    rw same (light log2 i least greatest below).1
+
+pub rows_are_light : (n log2 : ℕ) (table : List (List ℤ)) → n ≡ 2 ^ log2 → 2 ≤ log2 → log2 ≤ 5 → HasEntries n (transMatrix log2) table → WeighAtMost n (64 * n) table
+rows_are_light n log2 table e least greatest entries =
+    subst (λ m. WeighAtMost m (64 * m) table) (sym e) (light_rows log2 table least greatest (subst (λ m. HasEntries m (transMatrix log2) table) e entries))
+
+pub columns_are_light : (n log2 : ℕ) (table : List (List ℤ)) → n ≡ 2 ^ log2 → 2 ≤ log2 → log2 ≤ 5 → HasEntries n (λ n k. transMatrix log2 k n) table → WeighAtMost n 2048 table
+columns_are_light n log2 table e least greatest entries =
+    subst (λ m. WeighAtMost m 2048 table) (sym e) (light_columns log2 table least greatest (subst (λ m. HasEntries m (λ n k. transMatrix log2 k n) table) e entries))

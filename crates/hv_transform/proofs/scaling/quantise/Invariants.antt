@@ -1,0 +1,7 @@
+use Rattle.std.proofs.Common.{pos, slice_index_or}
+use Rattle.hv_model.specs.Quantisation.{quantised}
+use Rattle.hv_transform.specs.Passes.{HasFirst}
+use Rattle.hv_transform.proofs.scaling.quantise.Given as goal
+
+abbrev pub invariant-loop-i : goal.invariant-loop-i
+invariant-loop-i l = HasFirst l.i (λ k. quantised l.log2 l.qp l.intra (slice_index_or l.coefficients k (pos 0))) l.out

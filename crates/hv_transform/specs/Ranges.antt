@@ -1,0 +1,12 @@
+-- How great the numbers of a block may be.
+use Rattle.std.specs.Prelude.{◌≤◌, List, All, ℤ}
+use Rattle.std.specs.Int.RustNames.{FitsSigned, unsigned_abs}
+use mir.Syntax.{w16}
+
+-- each is from -32768 to 32767
+abbrev pub Have16Bits : List ℤ → Type 0
+Have16Bits numbers = All (FitsSigned w16) numbers
+
+-- each is a difference of two samples of 8 bits
+abbrev pub AreDifferences : List ℤ → Type 0
+AreDifferences numbers = All (λ z. unsigned_abs z ≤ 255) numbers

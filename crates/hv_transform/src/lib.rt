@@ -1,0 +1,20 @@
+//! The transforms of residual blocks, scaling and quantisation (8.6.3, 8.6.4).
+//!
+//! A block of 2^log2 columns and rows stands by rows, each from left to right; log2 is 2 to 5. The
+//! residual comes back from levels by `scale` and then `inverse`; the encoder gets levels from a
+//! residual by `forward` and then `quantise`. None of them takes memory, and each always answers.
+#![tactic(auto)]
+
+mod dot;
+mod forward_transform;
+mod inverse_transform;
+mod laws;
+mod rows;
+mod scaling;
+#[cfg(test)]
+mod tests;
+
+pub use forward_transform::forward;
+pub use inverse_transform::inverse;
+pub use laws::calls_join_law;
+pub use scaling::{quantise, scale};

@@ -1,0 +1,150 @@
+//! Scaling (8.6.3), and the encoder's quantisation, number by number.
+ghost use Rattle.std.specs.Prelude.{◌≡◌, ◌+◌, ◌-◌, ◌*◌, ◌/◌, ◌^◌, ◌<◌, ◌≤◌, length, map, pos, ◌*ℤ◌};
+ghost use Rattle.std.specs.Int.RustNames.{unsigned_abs};
+ghost use Rattle.hv_model.specs.Clipping.{clip16};
+ghost use Rattle.hv_model.specs.InverseTransform.{scaled};
+ghost use Rattle.hv_model.specs.Quantisation.{quantised, rounded, with_sign_of, offset_of_kind};
+ghost use Rattle.hv_tables.specs.Quantisers.{levelScale};
+ghost use Rattle.hv_transform.specs.Ranges.{Have16Bits};
+
+use hv_tables::{level_scale, quantisation_factor};
+
+/// A level by its factor.
+#[inline(always)]
+fn product(level: i16, factor: u32) -> i64
+    requires { factor ≤ 294912 }
+    ensures value { result ≡ level *ℤ pos factor }
+    ensures small { unsigned_abs result ≤ 32768 * 294912 }
+{
+    i64::from(level) * i64::from(factor)
+}
+
+/// A product by 2^shift, rounded to the nearest, a half upwards.
+#[inline(always)]
+fn rounded(product: i64, shift: u32) -> i64
+    requires range { unsigned_abs product ≤ 32768 * 294912 }
+    requires some { 0 < shift }
+    requires few { shift ≤ 8 }
+    ensures { result ≡ rounded product shift }
+{
+    (product + (1 << (shift - 1))) >> shift
+}
+
+/// The nearest number of 16 bits.
+#[inline(always)]
+fn clipped(value: i64) -> i32
+    ensures { result ≡ clip16 value }
+{
+    value.clamp(-32768, 32767) as i32
+}
+
+/// A scaled transform coefficient, by its whole factor and the shift.
+#[inline(always)]
+fn scaled_by(level: i16, factor: u32, shift: u32) -> i32
+    requires small { factor ≤ 294912 }
+    requires some { 0 < shift }
+    requires few { shift ≤ 8 }
+    ensures { result ≡ clip16 (rounded (level *ℤ pos factor) shift) }
+{
+    clipped(rounded(product(level, factor), shift))
+}
+
+/// The factor of a quantiser: the scaling factor m is 16 everywhere (8.6.3).
+#[inline(always)]
+fn whole_factor(qp: u8) -> u32
+    requires { qp ≤ 51 }
+    ensures value { result ≡ 16 * levelScale qp * 2 ^ (qp / 6) }
+    ensures small { result ≤ 294912 }
+{
+    (16 * u32::from(level_scale(qp))) << (qp / 6)
+}
+
+/// Scales the levels of a block to transform coefficients (8.6.3).
+///
+/// `levels` are those of a block of 2^log2 columns, log2 is 2 to 5, and `qp` is the quantiser of its
+/// component, 0 to 51. `out` has as many members. Each coefficient is clipped to 16 bits.
+pub fn scale(levels: &[i16], log2: u8, qp: u8, out: &mut [i32])
+    requires least { 2 ≤ log2 }
+    requires greatest { log2 ≤ 5 }
+    requires quantiser { qp ≤ 51 }
+    requires room { length out.old ≡ length levels.now }
+    ensures value { out.new ≡ map (scaled log2 qp) levels.now }
+    ensures range { Have16Bits out.new }
+{
+    let shift = u32::from(log2) + 3;
+    let factor = whole_factor(qp);
+    for i in 0..out.len() {
+        out[i] = scaled_by(levels[i], factor, shift);
+    }
+}
+
+/// The size of a level, by that of its coefficient, its factor, what is added, and the shift.
+#[inline(always)]
+fn size_of_level(size: u32, factor: u32, offset: u32, shift: u32) -> u32
+    requires range { size ≤ 32768 }
+    requires small { factor ≤ 26214 }
+    requires least { 16 ≤ shift }
+    requires greatest { shift ≤ 27 }
+    requires part { offset ≤ 2 ^ shift }
+    ensures value { result ≡ (size * factor + offset) / 2 ^ shift }
+    ensures small { result ≤ 13108 }
+{
+    (size * factor + offset) >> shift
+}
+
+/// The level of a coefficient, by its factor, what is added, and the shift.
+#[inline(always)]
+fn quantised_by(coefficient: i32, factor: u32, offset: u32, shift: u32) -> i16
+    requires range { unsigned_abs coefficient ≤ 32768 }
+    requires small { factor ≤ 26214 }
+    requires least { 16 ≤ shift }
+    requires greatest { shift ≤ 27 }
+    requires part { offset ≤ 2 ^ shift }
+    ensures { result ≡ clip16 (with_sign_of coefficient
+        ((unsigned_abs coefficient * factor + offset) / 2 ^ shift)) }
+{
+    let size = size_of_level(coefficient.unsigned_abs(), factor, offset, shift) as i16;
+    if coefficient < 0 { -size } else { size }
+}
+
+/// What is added before the last division, in 512ths of a level: a third of a level in intra units,
+/// a sixth in others.
+#[inline(always)]
+fn offset_of_kind(intra: bool) -> u32
+    ensures value { result ≡ offset_of_kind intra }
+    ensures small { result ≤ 171 }
+{
+    if intra { 171 } else { 85 }
+}
+
+/// The same, in parts of 2^shift.
+#[inline(always)]
+fn offset_of(intra: bool, shift: u32) -> u32
+    requires least { 16 ≤ shift }
+    requires greatest { shift ≤ 27 }
+    ensures value { result ≡ offset_of_kind intra * 2 ^ (shift - 9) }
+    ensures part { result ≤ 2 ^ shift }
+{
+    offset_of_kind(intra) << (shift - 9)
+}
+
+/// The levels of a block of transform coefficients, as the encoder chooses them.
+///
+/// `coefficients` are those of a block of 2^log2 columns, log2 is 2 to 5, and each has 16 bits. `qp`
+/// is the quantiser of its component, 0 to 51, and `intra` tells whether its unit is intra. `out` has
+/// as many members.
+pub fn quantise(coefficients: &[i32], log2: u8, qp: u8, intra: bool, out: &mut [i16])
+    requires least { 2 ≤ log2 }
+    requires greatest { log2 ≤ 5 }
+    requires quantiser { qp ≤ 51 }
+    requires range { Have16Bits coefficients.now }
+    requires room { length out.old ≡ length coefficients.now }
+    ensures { out.new ≡ map (quantised log2 qp intra) coefficients.now }
+{
+    let shift = u32::from(21 + qp / 6 - log2);
+    let factor = u32::from(quantisation_factor(qp));
+    let offset = offset_of(intra, shift);
+    for i in 0..out.len() {
+        out[i] = quantised_by(coefficients[i], factor, offset, shift);
+    }
+}

@@ -1,6 +1,7 @@
 //! The same program as `crates/hv_speed` in plain Rust: loops over rows of fixed length, which the
 //! compiler turns into vector instructions as well as it can, and the writers of bits and of NAL
-//! units as `crates/hv_bits` has them.
+//! units as `crates/hv_bits` has them; intra prediction as `crates/hv_intra` has it, and transforms
+//! as `crates/hv_transform` has them.
 use std::env;
 use std::hint::black_box;
 use std::process::ExitCode;
@@ -225,20 +226,31 @@ fn put_fields(fields: &[Field]) -> Vec<u8> {
     writer.finish()
 }
 
+// Whether the third byte from a place on is there, and is larger than an escaped one.
+fn third_is_large(bytes: &[u8], at: usize) -> bool {
+    bytes.get(at + 2).is_some_and(|&byte| byte > LARGEST_ESCAPED)
+}
+
 #[inline(never)]
 fn write_nal(kind: u8, temporal: u8, payload: &[u8]) -> Vec<u8> {
     let mut bytes = Vec::new();
     bytes.extend_from_slice(&[0, 0, 0, 1, kind * 2, temporal + 1]);
     let mut from = 0;
     let mut zeros = 0usize;
-    for (i, &byte) in payload.iter().enumerate() {
+    let mut at = 0;
+    while at < payload.len() {
+        while zeros == 0 && third_is_large(payload, at) {
+            at += 3;
+        }
+        let Some(&byte) = payload.get(at) else { break };
         if zeros > 1 && byte <= LARGEST_ESCAPED {
-            bytes.extend_from_slice(&payload[from..i]);
+            bytes.extend_from_slice(&payload[from..at]);
             bytes.push(THREE_BYTE);
-            from = i;
+            from = at;
             zeros = 0;
         }
         zeros = if byte == 0 { zeros + 1 } else { 0 };
+        at += 1;
     }
     bytes.extend_from_slice(&payload[from..]);
     bytes
@@ -247,17 +259,23 @@ fn write_nal(kind: u8, temporal: u8, payload: &[u8]) -> Vec<u8> {
 #[inline(never)]
 fn strip_nal(unit: &[u8]) -> Vec<u8> {
     let escaped = &unit[2..];
-    let mut bytes = Vec::new();
+    let mut bytes = Vec::with_capacity(escaped.len());
     let mut from = 0;
     let mut run = 0usize;
-    for (i, &byte) in escaped.iter().enumerate() {
+    let mut at = 0;
+    while at < escaped.len() {
+        while run == 0 && third_is_large(escaped, at) {
+            at += 3;
+        }
+        let Some(&byte) = escaped.get(at) else { break };
         if run > 1 && byte == THREE_BYTE {
-            bytes.extend_from_slice(&escaped[from..i]);
-            from = i + 1;
+            bytes.extend_from_slice(&escaped[from..at]);
+            from = at + 1;
             run = 0;
         } else {
             run = if byte == 0 { run + 1 } else { 0 };
         }
+        at += 1;
     }
     bytes.extend_from_slice(&escaped[from..]);
     bytes
@@ -340,6 +358,421 @@ fn checksum_of_bits(kernel: BitKernel, rounds: usize) -> u64 {
     sum
 }
 
+// Intra prediction, as `crates/hv_intra` has it.
+
+#[rustfmt::skip]
+static ANGLES: [i8; 33] = [
+    32, 26, 21, 17, 13, 9, 5, 2, 0, -2, -5, -9, -13, -17, -21, -26,
+    -32, -26, -21, -17, -13, -9, -5, -2, 0, 2, 5, 9, 13, 17, 21, 26, 32,
+];
+
+#[rustfmt::skip]
+static INVERSE_ANGLES: [i16; 15] = [
+    -4096, -1638, -910, -630, -482, -390, -315, -256, -315, -390, -482, -630, -910, -1638, -4096,
+];
+
+const LONGEST: usize = 129;
+const PLACES: usize = 98;
+
+#[inline(always)]
+fn left(line: &[u8], n: usize, i: usize) -> u8 {
+    line[2 * n - i]
+}
+
+#[inline(always)]
+fn above(line: &[u8], n: usize, i: usize) -> u8 {
+    line[2 * n + i]
+}
+
+#[inline(always)]
+fn predict_planar(line: &[u8], n: usize, log2: u8, out: &mut [u8]) {
+    let right = u16::from(above(line, n, n + 1));
+    let lower = u16::from(left(line, n, n + 1));
+    for y in 0..n {
+        let row = &mut out[y * n..y * n + n];
+        let beside = u16::from(left(line, n, y + 1));
+        for x in 0..n {
+            let across = (n - 1 - x) as u16 * beside + (x + 1) as u16 * right;
+            let over = u16::from(above(line, n, x + 1));
+            let down = (n - 1 - y) as u16 * over + (y + 1) as u16 * lower;
+            row[x] = ((across + down + n as u16) >> (log2 + 1)) as u8;
+        }
+    }
+}
+
+#[inline(always)]
+fn edge_of_dc(neighbour: u8, value: u8) -> u8 {
+    ((u16::from(neighbour) + 3 * u16::from(value) + 2) / 4) as u8
+}
+
+#[inline(always)]
+fn predict_dc(line: &[u8], n: usize, log2: u8, luma: bool, out: &mut [u8]) {
+    let mut sum = 0;
+    for i in 1..=n {
+        sum += u16::from(above(line, n, i)) + u16::from(left(line, n, i));
+    }
+    let value = ((sum + n as u16) >> (log2 + 1)) as u8;
+    out.fill(value);
+    if luma && n < 32 {
+        let beside = u16::from(left(line, n, 1)) + u16::from(above(line, n, 1));
+        out[0] = ((beside + 2 * u16::from(value) + 2) / 4) as u8;
+        for x in 1..n {
+            out[x] = edge_of_dc(above(line, n, x + 1), value);
+        }
+        for y in 1..n {
+            out[y * n] = edge_of_dc(left(line, n, y + 1), value);
+        }
+    }
+}
+
+#[inline(always)]
+fn edge_of_straight(first: u8, other: u8, corner: u8) -> u8 {
+    let moved = (i16::from(other) - i16::from(corner)) >> 1;
+    (i16::from(first) + moved).clamp(0, 255) as u8
+}
+
+#[inline(always)]
+fn predict_vertical(line: &[u8], n: usize, out: &mut [u8]) {
+    for y in 0..n {
+        let row = &mut out[y * n..y * n + n];
+        row.copy_from_slice(&line[2 * n + 1..3 * n + 1]);
+        row[0] = edge_of_straight(row[0], left(line, n, y + 1), left(line, n, 0));
+    }
+}
+
+#[inline(always)]
+fn predict_horizontal(line: &[u8], n: usize, out: &mut [u8]) {
+    let first = left(line, n, 1);
+    let corner = left(line, n, 0);
+    for x in 0..n {
+        out[x] = edge_of_straight(first, above(line, n, x + 1), corner);
+    }
+    for y in 1..n {
+        out[y * n..y * n + n].fill(left(line, n, y + 1));
+    }
+}
+
+#[inline(always)]
+fn fill_rows(reference: &[u8; PLACES], n: usize, angle: i32, out: &mut [u8]) {
+    for y in 0..n {
+        let way = (y as i32 + 1) * angle;
+        let first = (n as i32 + 1 + (way >> 5)) as usize;
+        let part = (way & 31) as u16;
+        let row = &mut out[y * n..y * n + n];
+        let samples = &reference[first..first + n + 1];
+        if part == 0 {
+            row.copy_from_slice(&samples[..n]);
+        } else {
+            for x in 0..n {
+                let (a, b) = (u16::from(samples[x]), u16::from(samples[x + 1]));
+                row[x] = (((32 - part) * a + part * b + 16) >> 5) as u8;
+            }
+        }
+    }
+}
+
+/// How many samples before the corner a mode refers to, and where each lies on the other side.
+#[inline(always)]
+fn projected(n: usize, mode: u8) -> impl Iterator<Item = usize> {
+    let count = if (11..=25).contains(&mode) {
+        -((n as i32 * i32::from(ANGLES[usize::from(mode) - 2])) >> 5) - 1
+    } else {
+        0
+    };
+    (0..count).map(move |i| {
+        ((-(i + 1) * i32::from(INVERSE_ANGLES[usize::from(mode) - 11]) + 128) >> 8) as usize
+    })
+}
+
+#[inline(always)]
+fn predict_angular(line: &[u8], n: usize, mode: u8, out: &mut [u8]) {
+    let angle = i32::from(ANGLES[usize::from(mode) - 2]);
+    let mut reference = [0; PLACES];
+    if mode < 18 {
+        for i in 0..2 * n + 1 {
+            reference[n + i] = left(line, n, i);
+        }
+        for (i, place) in projected(n, mode).enumerate() {
+            reference[n - 1 - i] = above(line, n, place);
+        }
+        let mut columns = [0; 1024];
+        fill_rows(&reference, n, angle, &mut columns[..n * n]);
+        for y in 0..n {
+            let row = &mut out[y * n..y * n + n];
+            for x in 0..n {
+                row[x] = columns[x * n + y];
+            }
+        }
+    } else {
+        reference[n..3 * n + 1].copy_from_slice(&line[2 * n..4 * n + 1]);
+        for (i, place) in projected(n, mode).enumerate() {
+            reference[n - 1 - i] = left(line, n, place);
+        }
+        fill_rows(&reference, n, angle, out);
+    }
+}
+
+#[inline(always)]
+fn predict_by_mode(line: &[u8], log2: u8, mode: u8, luma: bool, out: &mut [u8]) {
+    let n = 1 << log2;
+    let edged = luma && log2 < 5;
+    match mode {
+        0 => predict_planar(line, n, log2, out),
+        1 => predict_dc(line, n, log2, luma, out),
+        10 if edged => predict_horizontal(line, n, out),
+        26 if edged => predict_vertical(line, n, out),
+        _ => predict_angular(line, n, mode, out),
+    }
+}
+
+#[inline(always)]
+fn predict_side(line: &[u8], log2: u8, mode: u8, luma: bool, out: &mut [u8]) {
+    let threshold = match log2 {
+        3 => 7,
+        4 => 1,
+        _ => 0,
+    };
+    let distance = mode.abs_diff(26).min(mode.abs_diff(10));
+    let line = &line[..4 * (1 << log2) + 1];
+    let out = &mut out[..1 << (2 * log2)];
+    if luma && log2 >= 3 && mode != 1 && distance > threshold {
+        let mut smoothed = [0; LONGEST];
+        let smoothed = &mut smoothed[..line.len()];
+        let last = line.len() - 1;
+        smoothed[0] = line[0];
+        smoothed[last] = line[last];
+        for (sample, three) in smoothed[1..last].iter_mut().zip(line.windows(3)) {
+            let sum = u16::from(three[0]) + 2 * u16::from(three[1]) + u16::from(three[2]);
+            *sample = ((sum + 2) / 4) as u8;
+        }
+        predict_by_mode(smoothed, log2, mode, luma, out);
+    } else {
+        predict_by_mode(line, log2, mode, luma, out);
+    }
+}
+
+#[inline(never)]
+fn predict_intra(line: &[u8], log2: u8, mode: u8, luma: bool, out: &mut [u8]) {
+    match log2 {
+        2 => predict_side(line, 2, mode, luma, out),
+        3 => predict_side(line, 3, mode, luma, out),
+        4 => predict_side(line, 4, mode, luma, out),
+        _ => predict_side(line, 5, mode, luma, out),
+    }
+}
+
+type IntraKernel = fn(&[u8], u8, usize) -> u64;
+
+fn run_predict_intra<const LOG2: u8, const SAMPLES: usize>(
+    line: &[u8],
+    mode: u8,
+    place: usize,
+) -> u64 {
+    let mut block = [0; SAMPLES];
+    predict_intra(line, LOG2, mode, true, &mut block);
+    u64::from(block[place])
+}
+
+const INTRA_KERNELS: [(&str, IntraKernel, usize); 3] = [
+    ("predict_intra_8", run_predict_intra::<3, 64>, 33),
+    ("predict_intra_16", run_predict_intra::<4, 256>, 65),
+    ("predict_intra_32", run_predict_intra::<5, 1024>, 129),
+];
+
+fn checksum_of_intra(kernel: IntraKernel, count: usize, rounds: usize) -> u64 {
+    let mut state = 5;
+    let mut line = Vec::new();
+    for _ in 0..count {
+        state = next(state);
+        line.push((state >> 24) as u8);
+    }
+    let mut sum = 0u64;
+    for round in 0..rounds {
+        for place in 0..CALLS {
+            let mode = ((place + round % 35) % 35) as u8;
+            sum = sum.wrapping_add(kernel(&line, mode, place));
+        }
+    }
+    sum
+}
+
+// The transform matrix, from the entries of a quarter of a turn.
+const QUARTER_TURN: [i8; 32] = [
+    90, 90, 90, 89, 88, 87, 85, 83, 82, 80, 78, 75, 73, 70, 67, 64, 61, 57, 54, 50, 46, 43, 38, 36,
+    31, 25, 22, 18, 13, 9, 4, 0,
+];
+
+const fn entry(k: usize, n: usize) -> i8 {
+    let step = (2 * n + 1) * k % 128;
+    let step = if step > 64 { 128 - step } else { step };
+    match step {
+        0 => 64,
+        1..=32 => QUARTER_TURN[step - 1],
+        _ => -QUARTER_TURN[63 - step],
+    }
+}
+
+const fn matrix<const N: usize>() -> [[i8; N]; N] {
+    let mut rows = [[0; N]; N];
+    let mut k = 0;
+    while k < N {
+        let mut n = 0;
+        while n < N {
+            rows[k][n] = entry(k * 32 / N, n);
+            n += 1;
+        }
+        k += 1;
+    }
+    rows
+}
+
+const fn turned<const N: usize>(rows: [[i8; N]; N]) -> [[i8; N]; N] {
+    let mut columns = [[0; N]; N];
+    let mut k = 0;
+    while k < N {
+        let mut n = 0;
+        while n < N {
+            columns[n][k] = rows[k][n];
+            n += 1;
+        }
+        k += 1;
+    }
+    columns
+}
+
+static ROWS_8: [[i8; 8]; 8] = matrix();
+static ROWS_16: [[i8; 16]; 16] = matrix();
+static ROWS_32: [[i8; 32]; 32] = matrix();
+static COLUMNS_8: [[i8; 8]; 8] = turned(matrix());
+static COLUMNS_16: [[i8; 16]; 16] = turned(matrix());
+static COLUMNS_32: [[i8; 32]; 32] = turned(matrix());
+
+#[inline(never)]
+fn dot<const N: usize>(entries: &[i8; N], numbers: &[i16; N]) -> i32 {
+    let mut sum = 0;
+    for x in 0..N {
+        sum += i32::from(entries[x]) * i32::from(numbers[x]);
+    }
+    sum
+}
+
+fn mean<const N: usize>(entries: &[i8; N], numbers: &[i16; N], shift: u32) -> i32 {
+    (dot(entries, numbers) + (1 << (shift - 1))) >> shift
+}
+
+fn row_of<const N: usize>(block: &[i16], y: usize) -> &[i16; N] {
+    block[y * N..y * N + N].try_into().unwrap()
+}
+
+#[inline(always)]
+fn inverse_of<const N: usize>(
+    columns: &[[i8; N]; N],
+    coefficients: &[i32],
+    turned: &mut [i16],
+    halfway: &mut [i16],
+    out: &mut [i16],
+) {
+    for x in 0..N {
+        for y in 0..N {
+            turned[x * N + y] = coefficients[y * N + x] as i16;
+        }
+    }
+    for y in 0..N {
+        for x in 0..N {
+            let value = mean(&columns[y], row_of(turned, x), 7);
+            halfway[y * N + x] = value.clamp(-32768, 32767) as i16;
+        }
+    }
+    for y in 0..N {
+        let numbers = row_of(halfway, y);
+        for x in 0..N {
+            out[y * N + x] = mean(&columns[x], numbers, 12) as i16;
+        }
+    }
+}
+
+#[inline(never)]
+fn inverse(coefficients: &[i32], log2: u8, out: &mut [i16]) {
+    match log2 {
+        3 => inverse_of(&COLUMNS_8, coefficients, &mut [0; 64], &mut [0; 64], out),
+        4 => inverse_of(&COLUMNS_16, coefficients, &mut [0; 256], &mut [0; 256], out),
+        _ => inverse_of(&COLUMNS_32, coefficients, &mut [0; 1024], &mut [0; 1024], out),
+    }
+}
+
+#[inline(always)]
+fn forward_of<const N: usize>(
+    rows: &[[i8; N]; N],
+    residual: &[i16],
+    log2: u8,
+    halfway: &mut [i16],
+    out: &mut [i32],
+) {
+    for u in 0..N {
+        for y in 0..N {
+            let value = mean(&rows[u], row_of(residual, y), u32::from(log2 - 1));
+            halfway[u * N + y] = value as i16;
+        }
+    }
+    for v in 0..N {
+        for u in 0..N {
+            out[v * N + u] = mean(&rows[v], row_of(halfway, u), u32::from(log2 + 6));
+        }
+    }
+}
+
+#[inline(never)]
+fn forward(residual: &[i16], log2: u8, out: &mut [i32]) {
+    match log2 {
+        3 => forward_of(&ROWS_8, residual, log2, &mut [0; 64], out),
+        4 => forward_of(&ROWS_16, residual, log2, &mut [0; 256], out),
+        _ => forward_of(&ROWS_32, residual, log2, &mut [0; 1024], out),
+    }
+}
+
+const TRANSFORM_KERNELS: [(&str, u8); 6] = [
+    ("inverse_8", 3),
+    ("inverse_16", 4),
+    ("inverse_32", 5),
+    ("forward_8", 3),
+    ("forward_16", 4),
+    ("forward_32", 5),
+];
+
+// The levels are the residuals, scaled at quantiser 26.
+fn checksum_of_transforms(is_inverse: bool, log2: u8, rounds: usize) -> u64 {
+    let size = 1 << (2 * log2);
+    let mut state = 5;
+    let mut residual = vec![0i16; size];
+    for number in &mut residual {
+        state = next(state);
+        *number = i16::from((state >> 24) as u8) - 128;
+    }
+    let shift = log2 + 3;
+    let scaled = |&level: &i16| -> i32 {
+        let value = (i32::from(level) * (16 * 51 << 4) + (1 << (shift - 1))) >> shift;
+        value.clamp(-32768, 32767)
+    };
+    let coefficients: Vec<i32> = residual.iter().map(scaled).collect();
+    let mut new_residual = vec![0i16; size];
+    let mut new_coefficients = vec![0i32; size];
+    let log2 = black_box(log2);
+    let mut sum = 0u64;
+    for _ in 0..rounds {
+        for place in 0..CALLS {
+            let number = if is_inverse {
+                inverse(&coefficients, log2, &mut new_residual);
+                u32::from(new_residual[place].unsigned_abs())
+            } else {
+                forward(&residual, log2, &mut new_coefficients);
+                new_coefficients[place].unsigned_abs()
+            };
+            sum = sum.wrapping_add(u64::from(number));
+        }
+    }
+    sum
+}
+
 fn main() -> ExitCode {
     let words: Vec<String> = env::args().skip(1).collect();
     let [name, rounds] = words.as_slice() else {
@@ -356,6 +789,17 @@ fn main() -> ExitCode {
     for (known, kernel) in BIT_KERNELS {
         if name == "all" || name == known {
             println!("{known} {}", checksum_of_bits(kernel, rounds));
+        }
+    }
+    for (known, kernel, count) in INTRA_KERNELS {
+        if name == "all" || name == known {
+            println!("{known} {}", checksum_of_intra(kernel, count, rounds));
+        }
+    }
+    for (known, log2) in TRANSFORM_KERNELS {
+        if name == "all" || name == known {
+            let is_inverse = known.starts_with("inverse");
+            println!("{known} {}", checksum_of_transforms(is_inverse, log2, rounds));
         }
     }
     ExitCode::SUCCESS

@@ -24,13 +24,6 @@ length-row_of samples stride width height y holds below = length-chunk (y * stri
 sum_after : (of_row : ℕ → ℕ) (y n m : ℕ) → m ≡ n + 1 → sum_of_rows of_row (y + m) ≡ sum_of_rows of_row (y + n) + of_row (y + n)
 sum_after of_row y n m e = rw (e, ← add_assoc y n 1) (sum_of_rows_more of_row (y + n))
 
--- two rows at once
-pub two_rows_more : (xs ys : ℕ → List ℕ) (y : ℕ) → length (xs y) ≡ length (ys y) → sum_of_rows (λ k. sad_of (xs k) (ys k)) (y + 2) ≡ sum_of_rows (λ k. sad_of (xs k) (ys k)) y + sad_of (xs y ++ xs (y + 1)) (ys y ++ ys (y + 1))
-two_rows_more xs ys y e =
-    let of_row : ℕ → ℕ = λ k. sad_of (xs k) (ys k) in
-    let joined : sad_of (xs y ++ xs (y + 1)) (ys y ++ ys (y + 1)) ≡ of_row y + of_row (y + 1) = sum_of_pairs-append abs_diff (xs y) (xs (y + 1)) (ys y) (ys (y + 1)) e in
-    omega (arith, joined, sum_of_rows_more of_row y, sum_after of_row y 1 2 refl)
-
 -- four rows at once
 pub four_rows_more : (xs ys : ℕ → List ℕ) (y : ℕ) → length (xs y) ≡ length (ys y) → length (xs (y + 1)) ≡ length (ys (y + 1)) → length (xs (y + 2)) ≡ length (ys (y + 2)) → sum_of_rows (λ k. sad_of (xs k) (ys k)) (y + 4) ≡ sum_of_rows (λ k. sad_of (xs k) (ys k)) y + sad_of ((xs y ++ xs (y + 1)) ++ (xs (y + 2) ++ xs (y + 3))) ((ys y ++ ys (y + 1)) ++ (ys (y + 2) ++ ys (y + 3)))
 four_rows_more xs ys y e f g =

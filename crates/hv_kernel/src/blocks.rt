@@ -2,7 +2,8 @@
 ghost use Rattle.std.specs.Prelude.{◌≡◌, ◌+◌, ◌*◌, ◌/◌, ◌≤◌};
 ghost use Rattle.hv_kernel.specs.Blocks.{HoldsBlock, block_sad_of, block_ssd_of};
 
-use crate::rows::{add_sad_of_rows, add_ssd_of_rows, sad_of_four_rows, sad_of_two_rows};
+use crate::lanes::{no_sums, total_of_sums};
+use crate::rows::{add_gaps_of_rows, add_sad_of_rows, add_ssd_of_rows, sad_of_four_rows};
 
 /// The sum of absolute differences of two blocks of 8 columns and `height` rows.
 ///
@@ -49,7 +50,7 @@ fn sad_of_rows_16(a: &[u8], a_stride: usize, b: &[u8], b_stride: usize, height: 
     let groups = height / 4;
     let mut sum = 0;
     for group in 0..groups {
-        sum += u32::from(sad_of_four_rows(a, a_stride, b, b_stride, 4 * group));
+        sum += sad_of_four_rows(a, a_stride, b, b_stride, 4 * group);
     }
     add_sad_of_rows::<16>(sum, 4 * groups, height, a, a_stride, b, b_stride)
 }
@@ -67,12 +68,15 @@ pub fn sad_block_32(a: &[u8], a_stride: usize, b: &[u8], b_stride: usize, height
     requires second { HoldsBlock b.now b_stride 32 height }
     ensures { result ≡ block_sad_of a.now a_stride b.now b_stride 32 height }
 {
-    let pairs = height / 2;
-    let mut sum = 0;
-    for pair in 0..pairs {
-        sum += u32::from(sad_of_two_rows(a, a_stride, b, b_stride, 2 * pair));
+    let groups = height / 4;
+    // The lanes are added up once, and not after each group.
+    let mut sums = no_sums::<32>();
+    for group in 0..groups {
+        let y = 4 * group;
+        sums = add_gaps_of_rows(sums, y, y + 4, a, a_stride, b, b_stride);
     }
-    add_sad_of_rows::<32>(sum, 2 * pairs, height, a, a_stride, b, b_stride)
+    let sum = total_of_sums(sums);
+    add_sad_of_rows::<32>(sum, 4 * groups, height, a, a_stride, b, b_stride)
 }
 
 /// The sum of absolute differences of two blocks of 64 columns and `height` rows.

@@ -56,12 +56,12 @@ fn gaps<const N: usize>(a: Simd<u8, N>, b: Simd<u8, N>) -> Simd<u8, N>
 
 /// The sum of the lanes.
 #[inline(always)]
-pub(crate) fn total<const N: usize>(lanes: Simd<u8, N>) -> u16
+pub(crate) fn total<const N: usize>(lanes: Simd<u8, N>) -> u32
     requires { N ≤ 64 }
     ensures value { result ≡ sum_l lanes.entry }
     ensures small { result ≤ 255 * N }
 {
-    lanes.cast::<u16>().strict_reduce_sum()
+    lanes.cast::<u32>().strict_reduce_sum()
 }
 
 /// The sum of the squares of the lanes.
@@ -77,7 +77,7 @@ fn total_of_squares<const N: usize>(lanes: Simd<u8, N>) -> u32
 
 /// The sum of absolute differences of the lanes.
 #[inline(always)]
-pub(crate) fn sad_of_lanes<const N: usize>(a: Simd<u8, N>, b: Simd<u8, N>) -> u16
+pub(crate) fn sad_of_lanes<const N: usize>(a: Simd<u8, N>, b: Simd<u8, N>) -> u32
     requires { N ≤ 64 }
     ensures value { result ≡ sad_of a.entry b.entry }
     ensures small { result ≤ 255 * 64 }
@@ -113,4 +113,49 @@ pub(crate) fn add(a: u32x4, b: u32x4) -> u32x4
     ensures whole { sum_l result ≡ sum_l a + sum_l b }
 {
     a.strict_add(b)
+}
+
+/// A sum for each lane, with nothing added.
+#[inline(always)]
+pub(crate) fn no_sums<const N: usize>() -> Simd<u32, N>
+    ensures { sum_l result ≡ 0 }
+{
+    Simd::<u32, N>::splat(0)
+}
+
+/// How far the lanes are apart, in 32 bits.
+///
+/// Both differences wrap, and the smaller is the one that is not negative. The compiler finds the
+/// instruction that sums differences in this form, and not in that of `gaps`, where their sums stay
+/// in lanes.
+#[inline(always)]
+fn wide_gaps<const N: usize>(a: Simd<u8, N>, b: Simd<u8, N>) -> Simd<u32, N>
+    ensures { result ≡ zip2 abs_diff a.entry b.entry }
+{
+    let (a, b) = (a.cast::<u32>(), b.cast::<u32>());
+    (a - b).simd_min(b - a)
+}
+
+/// Adds how far the lanes are apart, each to the sum in its place.
+#[inline(always)]
+pub(crate) fn add_gaps<const N: usize>(
+    sums: Simd<u32, N>,
+    a: Simd<u8, N>,
+    b: Simd<u8, N>,
+) -> Simd<u32, N>
+    requires lanes { N ≤ 64 }
+    requires room { sum_l sums ≤ 255 * 64 * 64 }
+    ensures value { sum_l result ≡ sum_l sums.entry + sad_of a.entry b.entry }
+    ensures small { sum_l result ≤ sum_l sums.entry + 255 * 64 }
+{
+    sums.strict_add(wide_gaps(a, b))
+}
+
+/// The sum of all lanes.
+#[inline(always)]
+pub(crate) fn total_of_sums<const N: usize>(sums: Simd<u32, N>) -> u32
+    requires { sum_l sums < 2 ^ 32 }
+    ensures { result ≡ sum_l sums.entry }
+{
+    sums.strict_reduce_sum()
 }

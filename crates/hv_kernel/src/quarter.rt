@@ -8,7 +8,7 @@ use std::simd::prelude::*;
 /// The sum of four samples from a place on.
 #[inline(always)]
 #[tactic(auto, using(crate::proofs::FourLemmas::sum_l_is_sum))]
-fn sum_of_four(samples: &[u8], at: usize) -> u16
+fn sum_of_four(samples: &[u8], at: usize) -> u32
     requires { at + 4 ≤ length samples.now }
     ensures value { result ≡ sum (take 4 (drop at samples.now)) }
     ensures small { result ≤ 255 * 4 }
@@ -19,7 +19,7 @@ fn sum_of_four(samples: &[u8], at: usize) -> u16
 /// The sum of the square of 4x4 samples that begins at `column`.
 #[inline(always)]
 #[tactic(auto, using(crate::proofs::FourLemmas::sum_of_four_rows))]
-fn sum_of_square(rows: &[u8], width: usize, column: usize) -> u16
+fn sum_of_square(rows: &[u8], width: usize, column: usize) -> u32
     requires { 3 * width + column + 4 ≤ length rows.now }
     ensures value { result ≡ sum_of_square rows.now width column }
     ensures small { result ≤ 255 * 16 }
@@ -86,6 +86,6 @@ pub fn decimate(rows: &[u8], width: u32, out: &mut [u8])
         put_four(rows, width, 4 * group, out);
     }
     for k in 4 * groups..out.len() {
-        out[k] = mean_of(u32::from(sum_of_square(rows, width, 4 * k)));
+        out[k] = mean_of(sum_of_square(rows, width, 4 * k));
     }
 }

@@ -1,8 +1,10 @@
 //! Sums of differences over the rows of two blocks, some rows a step.
 ghost use Rattle.std.specs.Prelude.{◌≡◌, ◌+◌, ◌*◌, ◌≤◌, ◌++◌};
+ghost use Rattle.std.specs.Simd.Lanes.{sum_l};
 ghost use Rattle.hv_kernel.specs.Blocks.{HoldsBlock, row_of, block_sad_of, block_ssd_of};
 
-use crate::lanes::{join_16, join_32, load, sad_of_lanes, ssd_of_lanes};
+use crate::lanes::{add_gaps, join_16, join_32, load, sad_of_lanes, ssd_of_lanes};
+use std::simd::Simd;
 use std::simd::prelude::*;
 
 /// Adds the absolute differences of the rows from `from` to those of the rows before.
@@ -30,9 +32,41 @@ pub(crate) fn add_sad_of_rows<const N: usize>(
     for y in from..height {
         let first = load::<N>(a, y * a_stride);
         let second = load::<N>(b, y * b_stride);
-        sum += u32::from(sad_of_lanes(first, second));
+        sum += sad_of_lanes(first, second);
     }
     sum
+}
+
+/// Adds the absolute differences of the rows from `from` to those of the rows before, each lane to
+/// the sum in its place.
+#[inline(always)]
+#[tactic(auto, using(crate::proofs::RowLemmas::sum_of_rows_more))]
+pub(crate) fn add_gaps_of_rows<const N: usize>(
+    sums: Simd<u32, N>,
+    from: usize,
+    height: usize,
+    a: &[u8],
+    a_stride: usize,
+    b: &[u8],
+    b_stride: usize,
+) -> Simd<u32, N>
+    requires lanes { N ≤ 64 }
+    requires few { height ≤ 64 }
+    requires begun { from ≤ height }
+    requires first { HoldsBlock a.now a_stride N height }
+    requires second { HoldsBlock b.now b_stride N height }
+    requires before { sum_l sums ≡ block_sad_of a.now a_stride b.now b_stride N from }
+    requires small { sum_l sums ≤ 255 * 64 * from }
+    ensures value { sum_l result ≡ block_sad_of a.now a_stride b.now b_stride N height }
+    ensures small { sum_l result ≤ 255 * 64 * height }
+{
+    let mut sums = sums;
+    for y in from..height {
+        let first = load::<N>(a, y * a_stride);
+        let second = load::<N>(b, y * b_stride);
+        sums = add_gaps(sums, first, second);
+    }
+    sums
 }
 
 /// Adds the squared differences of the rows from `from` to those of the rows before.
@@ -65,16 +99,6 @@ pub(crate) fn add_ssd_of_rows<const N: usize>(
     sum
 }
 
-/// Two rows of 32 samples, from row `y` on.
-#[inline(always)]
-fn two_rows(samples: &[u8], stride: usize, y: usize) -> u8x64
-    requires few { y ≤ 64 }
-    requires inside { HoldsBlock samples.now stride 32 (y + 2) }
-    ensures { result ≡ row_of samples.now stride 32 y ++ row_of samples.now stride 32 (y + 1) }
-{
-    join_32(load(samples, y * stride), load(samples, (y + 1) * stride))
-}
-
 /// Four rows of 16 samples, from row `y` on.
 #[inline(always)]
 fn four_rows(samples: &[u8], stride: usize, y: usize) -> u8x64
@@ -92,19 +116,6 @@ fn four_rows(samples: &[u8], stride: usize, y: usize) -> u8x64
     join_32(upper, lower)
 }
 
-/// The sum of absolute differences of two rows of 32 samples, from row `y` on.
-#[inline(always)]
-pub(crate) fn sad_of_two_rows(a: &[u8], a_stride: usize, b: &[u8], b_stride: usize, y: usize) -> u16
-    requires few { y ≤ 64 }
-    requires first { HoldsBlock a.now a_stride 32 (y + 2) }
-    requires second { HoldsBlock b.now b_stride 32 (y + 2) }
-    ensures value { block_sad_of a.now a_stride b.now b_stride 32 (y + 2) ≡
-        block_sad_of a.now a_stride b.now b_stride 32 y + result }
-    ensures small { result ≤ 255 * 64 }
-{
-    sad_of_lanes(two_rows(a, a_stride, y), two_rows(b, b_stride, y))
-}
-
 /// The sum of absolute differences of four rows of 16 samples, from row `y` on.
 #[inline(always)]
 pub(crate) fn sad_of_four_rows(
@@ -113,7 +124,7 @@ pub(crate) fn sad_of_four_rows(
     b: &[u8],
     b_stride: usize,
     y: usize,
-) -> u16
+) -> u32
     requires few { y ≤ 64 }
     requires first { HoldsBlock a.now a_stride 16 (y + 4) }
     requires second { HoldsBlock b.now b_stride 16 (y + 4) }

@@ -84,6 +84,7 @@ fn blocks_of_few_rows(rt: HostRuntime) {
     assert_eq!(rt; sad_block_16(&slow, 67, &fast, 64, 0), 0);
     assert_eq!(rt; sad_block_16(&slow, 67, &fast, 64, 5), 160);
     assert_eq!(rt; sad_block_32(&slow, 67, &fast, 64, 3), 96);
+    assert_eq!(rt; sad_block_32(&fast, 64, &slow, 67, 7), 672);
     assert_eq!(rt; ssd_block_16(&slow, 67, &fast, 64, 5), 480);
     assert_eq!(rt; ssd_block_32(&slow, 67, &fast, 64, 3), 160);
 }
@@ -92,6 +93,7 @@ fn blocks_of_few_rows(rt: HostRuntime) {
 fn blocks_of_extreme_samples(rt: HostRuntime) {
     let black = [0u8; 4096];
     let white = [255u8; 4096];
+    assert_eq!(rt; sad_block_32(&black, 64, &white, 64, 64), 522240);
     assert_eq!(rt; sad_block_64(&black, 64, &white, 64, 64), 1044480);
     assert_eq!(rt; ssd_block_64(&black, 64, &white, 64, 64), 266342400);
     assert_eq!(rt; sad_block_8(&white, 64, &black, 64, 8), 16320);

@@ -4,19 +4,23 @@
 #![tactic(auto)]
 
 mod bits;
+mod intra;
 mod kernel;
 mod pictures;
 mod streams;
+mod transforms;
 
 use anyhow::bail;
 use bits::BitKernel;
 use hv_types::NoMemory;
+use intra::{IntraKernel, Lines};
 use kernel::Kernel;
 use pictures::Pictures;
 use std::alloc::Global;
 use std::env;
 use std::io::Print;
 use streams::Streams;
+use transforms::{Block, TransformKernel};
 
 const CALLS: usize = 64;
 
@@ -81,6 +85,59 @@ fn print_checksums_of_bits(
     Ok(())
 }
 
+/// The sum of what `rounds` rounds of calls gave, modulo 2^64.
+fn checksum_of_intra(kernel: IntraKernel, rounds: u32, lines: &Lines) -> u64 {
+    let mut sum = 0u64;
+    for round in 0..rounds {
+        for place in 0..CALLS {
+            sum = sum.wrapping_add(kernel.run(lines, place, round));
+        }
+    }
+    sum
+}
+
+/// As `print_checksums`, for kernels of intra prediction.
+fn print_checksums_of_intra(
+    rt: &impl Print,
+    kernels: &[IntraKernel],
+    rounds: u32,
+) -> anyhow::Result<()> {
+    let lines = Lines::new();
+    for kernel in kernels {
+        let sum = checksum_of_intra(*kernel, rounds, &lines);
+        let name = kernel.name();
+        println!(rt; "{name} {sum}")?;
+    }
+    Ok(())
+}
+
+/// The sum of what `rounds` rounds of calls gave, modulo 2^64.
+fn checksum_of_transforms(kernel: TransformKernel, rounds: u32, block: &mut Block) -> u64 {
+    let mut sum = 0u64;
+    for _ in 0..rounds {
+        for place in 0..CALLS {
+            sum = sum.wrapping_add(kernel.run(block, place));
+        }
+    }
+    sum
+}
+
+/// As `print_checksums`, for transforms.
+fn print_checksums_of_transforms(
+    rt: &impl Print,
+    alloc: Global,
+    kernels: &[TransformKernel],
+    rounds: u32,
+) -> anyhow::Result<()> {
+    for kernel in kernels {
+        let mut block = kernel.block(alloc)?;
+        let sum = checksum_of_transforms(*kernel, rounds, &mut block);
+        let name = kernel.name();
+        println!(rt; "{name} {sum}")?;
+    }
+    Ok(())
+}
+
 fn main(rt: HostRuntime) -> anyhow::Result<()> {
     let mut words = env::args(&rt)?.skip(1);
     let (Some(name), Some(rounds)) = (words.next(), words.next()) else {
@@ -91,10 +148,18 @@ fn main(rt: HostRuntime) -> anyhow::Result<()> {
     };
     if name.as_str() == "all" {
         print_checksums(&rt, rt.alloc(), &Kernel::ALL, rounds)?;
-        return print_checksums_of_bits(&rt, rt.alloc(), &BitKernel::ALL, rounds);
+        print_checksums_of_bits(&rt, rt.alloc(), &BitKernel::ALL, rounds)?;
+        print_checksums_of_intra(&rt, &IntraKernel::ALL, rounds)?;
+        return print_checksums_of_transforms(&rt, rt.alloc(), &TransformKernel::ALL, rounds);
     }
     if let Some(kernel) = BitKernel::named(name.as_str()) {
         return print_checksums_of_bits(&rt, rt.alloc(), &[kernel], rounds);
+    }
+    if let Some(kernel) = IntraKernel::named(name.as_str()) {
+        return print_checksums_of_intra(&rt, &[kernel], rounds);
+    }
+    if let Some(kernel) = TransformKernel::named(name.as_str()) {
+        return print_checksums_of_transforms(&rt, rt.alloc(), &[kernel], rounds);
     }
     match Kernel::named(name.as_str()) {
         Some(kernel) => print_checksums(&rt, rt.alloc(), &[kernel], rounds),

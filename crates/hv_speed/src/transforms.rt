@@ -1,0 +1,133 @@
+//! The kernels of transforms that can be run, and the blocks that they go over.
+ghost use Rattle.std.specs.Prelude.{◌≡◌, ◌^◌, ◌<◌, ◌≤◌, IfOk, vec_len, length};
+ghost use Rattle.hv_transform.specs.Ranges.{Have16Bits, AreDifferences};
+
+use hv_transform::{forward, inverse, scale};
+use std::alloc::{AllocError, Global};
+
+/// A block of residuals, one of coefficients, and room for what a transform makes of them.
+#[derive(Drop)]
+pub struct Block {
+    log2: u8,
+    residual: Vec<i16>,
+    coefficients: Vec<i32>,
+    new_residual: Vec<i16>,
+    new_coefficients: Vec<i32>,
+    ghost least: { 2 ≤ log2 },
+    ghost greatest: { log2 ≤ 5 },
+    ghost residual_whole: { vec_len residual ≡ 4 ^ log2 },
+    ghost coefficients_whole: { vec_len coefficients ≡ 4 ^ log2 },
+    ghost new_residual_whole: { vec_len new_residual ≡ 4 ^ log2 },
+    ghost new_coefficients_whole: { vec_len new_coefficients ≡ 4 ^ log2 },
+    ghost differences: { AreDifferences residual.items },
+    ghost range: { Have16Bits coefficients.items },
+}
+
+/// Writes differences from a generator of numbers.
+fn put_noise(out: &mut [i16])
+    ensures { AreDifferences out.new }
+{
+    let mut state = 5u32;
+    for i in 0..out.len() {
+        state = state.wrapping_mul(1664525).wrapping_add(1013904223);
+        out[i] = i16::from((state >> 24) as u8) - 128;
+    }
+}
+
+impl Block {
+    /// A block of 2^log2 columns, which has `size` members.
+    pub fn new(alloc: Global, log2: u8, size: usize) -> Result<Block, AllocError>
+        requires least { 2 ≤ log2 }
+        requires greatest { log2 ≤ 5 }
+        requires size { size ≡ 4 ^ log2 }
+    {
+        let mut residual = vec![in alloc; 0i16; size]?;
+        let mut coefficients = vec![in alloc; 0i32; size]?;
+        let new_residual = vec![in alloc; 0i16; size]?;
+        let new_coefficients = vec![in alloc; 0i32; size]?;
+        put_noise(&mut residual);
+        scale(&residual, log2, 26, &mut coefficients);
+        Ok(Block {
+            log2,
+            residual,
+            coefficients,
+            new_residual,
+            new_coefficients,
+        })
+    }
+}
+
+#[derive(Clone, Copy, PartialEq, Eq)]
+pub enum TransformKernel {
+    Inverse8,
+    Inverse16,
+    Inverse32,
+    Forward8,
+    Forward16,
+    Forward32,
+}
+
+impl TransformKernel {
+    /// All kernels, in the order in which they are run.
+    pub const ALL: [TransformKernel; 6] = [
+        TransformKernel::Inverse8,
+        TransformKernel::Inverse16,
+        TransformKernel::Inverse32,
+        TransformKernel::Forward8,
+        TransformKernel::Forward16,
+        TransformKernel::Forward32,
+    ];
+
+    /// The word by which a user asks for it.
+    pub fn name(self) -> &'static str {
+        match self {
+            TransformKernel::Inverse8 => "inverse_8",
+            TransformKernel::Inverse16 => "inverse_16",
+            TransformKernel::Inverse32 => "inverse_32",
+            TransformKernel::Forward8 => "forward_8",
+            TransformKernel::Forward16 => "forward_16",
+            TransformKernel::Forward32 => "forward_32",
+        }
+    }
+
+    /// The kernel of this name, if there is one.
+    pub fn named(word: &str) -> Option<TransformKernel> {
+        for kernel in &TransformKernel::ALL {
+            if kernel.name() == word {
+                return Some(*kernel);
+            }
+        }
+        None
+    }
+
+    /// The block that the kernel goes over.
+    pub fn block(self, alloc: Global) -> Result<Block, AllocError> {
+        match self {
+            TransformKernel::Inverse8 | TransformKernel::Forward8 => Block::new(alloc, 3, 64),
+            TransformKernel::Inverse16 | TransformKernel::Forward16 => Block::new(alloc, 4, 256),
+            TransformKernel::Inverse32 | TransformKernel::Forward32 => Block::new(alloc, 5, 1024),
+        }
+    }
+
+    /// Runs the kernel once, and gives a number of what it made. The place chooses the number.
+    pub fn run(self, block: &mut Block, place: usize) -> u64
+        requires { place < 64 }
+    {
+        match self {
+            TransformKernel::Inverse8 | TransformKernel::Inverse16 | TransformKernel::Inverse32 => {
+                inverse(&block.coefficients, block.log2, &mut block.new_residual);
+                match block.new_residual.get(place) {
+                    Some(number) => u64::from(number.unsigned_abs()),
+                    None => 0,
+                }
+            }
+            TransformKernel::Forward8 | TransformKernel::Forward16 | TransformKernel::Forward32 => {
+                forward(&block.residual, block.log2, &mut block.new_coefficients);
+                match block.new_coefficients.get(place) {
+                    Some(number) => u64::from(number.unsigned_abs()),
+                    None => 0,
+                }
+            }
+        }
+    }
+}

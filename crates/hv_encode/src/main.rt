@@ -1,4 +1,5 @@
-//! The program `hv_encode`: raw video on standard input, an H.265 byte stream on standard output.
+//! The program `hv_encode`: raw video on standard input, an H.265 byte stream on standard output, and a
+//! line of how that ended on standard error.
 #![tactic(auto)]
 
 use hv_run::run_encode;

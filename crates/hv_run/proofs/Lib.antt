@@ -1,8 +1,10 @@
 pub mod Decimals
 pub mod TwelveWords
 pub mod Moves
-pub mod FieldLists
-pub mod Encoded
-pub mod OnePicture
-pub mod Statuses
-pub mod Accepted
+pub mod Puttings
+pub mod SliceBins
+pub mod Puts
+pub mod Streams
+pub mod Reading
+pub mod Progress
+pub mod Conclusions

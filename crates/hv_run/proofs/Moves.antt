@@ -1,11 +1,12 @@
 -- What loops over a source and a sink have moved so far.
-use Rattle.std.proofs.Common.{◌≡◌, ℕ, ◌+◌, ◌-◌, ◌≤◌, List, ◌++◌, length, take, drop, arith, length-append, length-drop, subst, sym, refl}
+use Rattle.std.proofs.Common.{◌≡◌, ℕ, ◌+◌, ◌-◌, ◌≤◌, List, ◌++◌, length, take, drop, arith, length-append, length-drop, subst, sym, ap, ◌∙◌, refl}
 use Rattle.std.specs.Prelude.{Option, Some}
-use Rattle.std.proofs.lemmas.List.{length-take-le}
-use Rattle.std.proofs.Math.Seq.{take-length}
+use Rattle.std.proofs.lemmas.List.{take-take, length-take-le}
+use Rattle.std.proofs.Math.Seq.{take-append-add, take-length}
+use Rattle.std.proofs.lemmas.Slice.{take-put_mid}
 use borrow.Rule.Slice.PartMut.{put_mid, post_of}
 use Rattle.hv_types.specs.Outside.{Fills, Reads, Writes}
-use Rattle.hv_types.proofs.OutsideLaws.{Fills-more, Writes-more}
+use Rattle.hv_types.proofs.OutsideLaws.{reads_joined, writes_joined}
 
 -- a buffer that is filled up to a place
 pub record IsFilled (before now : Option (List ℕ)) (buffer : List ℕ) (filled : ℕ) : Type 0 where
@@ -27,12 +28,23 @@ inside_lent at k n into part inside there =
       length-take-le at into inside,
     )
 
+-- A part of a buffer from `at` on was lent, and holds `part` now: the front of the whole.
+take_lent : (into part : List ℕ) (at k n : ℕ) → at ≤ length into → n ≤ length part →
+    take (at + n) (put_mid at k into part) ≡ take at into ++ take n part
+take_lent into part at k n inside there =
+    let whole = take-put_mid at k into part (at + length part) refl inside in
+    let len : length (take at into) ≡ at = length-take-le at into inside in
+    sym (take-take (at + n) (at + length part) (put_mid at k into part) (omega arith)) ∙
+    ap (take (at + n)) whole ∙ ap (λ m. take (m + n) (take at into ++ part)) (sym len) ∙
+    take-append-add (take at into) part n
+
 -- one more read into the part of the buffer that is left
 pub one_read : (before mid now : Option (List ℕ)) (into part : List ℕ) (at k n : ℕ) →
     IsFilled before mid into at → Reads mid now part n → IsFilled before now (put_mid at k into part) (at + n)
 one_read before mid now into part at k n f r = record {
   inside = inside_lent at k n into part f.inside r.room;
-  read = λ bytes e. Fills-more bytes mid now into part at k n (at + n) (f.read bytes e) f.inside r refl;
+  read = λ bytes e. reads_joined bytes mid now into part (put_mid at k into part) at n (f.read bytes e) r
+      (take_lent into part at k n f.inside r.room);
 }
 
 -- one more write of the part of the piece that is left
@@ -42,7 +54,7 @@ one_write old mid new piece part at n e f w =
     let w' : Writes mid new (drop at piece) n = subst (λ (p : List ℕ). Writes mid new p n) e w in
     record {
       inside = omega (arith, w'.there, length-drop at piece, f.inside);
-      wrote = λ had h. Writes-more had piece mid new at n (at + n) (f.wrote had h) w' refl;
+      wrote = λ had h. writes_joined had piece mid new at n (f.wrote had h) w';
     }
 
 -- the part of a piece from a place on, as a slice takes it

@@ -1,5 +1,6 @@
 pub mod CommandLine
 pub mod Transfers
-pub mod HeaderTables
 pub mod Outcomes
+pub mod Report
 pub mod Endings
+pub mod Statuses

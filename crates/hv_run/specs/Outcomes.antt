@@ -9,9 +9,9 @@ use Rattle.hv_model.specs.Encoding.{output}
 
 -- ---- what was read
 
--- how many pictures a video may have: so far one
+-- how many pictures a video may have
 abbrev pub most_pictures : ℕ
-most_pictures = 1
+most_pictures = 400000
 
 abbrev pub pictures_in : Settings → List ℕ → List Picture
 pictures_in cfg bytes = pictures cfg.width cfg.height bytes
@@ -47,6 +47,10 @@ pub record GoesOn (cfg : Settings) (bytes : List ℕ) (now : Option (List ℕ)) 
 -- the sink has these bytes behind those that it had
 abbrev pub Grows : Option (List ℕ) → Option (List ℕ) → List ℕ → Type 0
 Grows old new bytes = (had : List ℕ) → old ≡ Some had → new ≡ Some (had ++ bytes)
+
+-- the groups of n pictures, of which the last may be smaller
+abbrev pub group_count : Settings → ℕ → ℕ
+group_count cfg n = (n + (cfg.group - 1)) / cfg.group
 
 -- the greatest multiple of the group's size that is at most n
 abbrev pub whole_groups : Settings → ℕ → ℕ

@@ -2,10 +2,12 @@
 #![tactic(auto)]
 
 mod encode;
-mod headers;
+mod report;
 mod run;
 mod serial;
 mod slice;
+#[cfg(test)]
+mod slice_tests;
 mod status;
 #[cfg(test)]
 mod tests;

@@ -2,27 +2,38 @@
 ghost use Rattle.std.specs.Prelude.{◌≡◌, ◌⊎◌, ℕ, List, Some, length, IsTrue};
 ghost use Rattle.hv_types.specs.declared.settings.Settings.{Settings as SettingsSeen};
 ghost use Rattle.hv_types.specs.declared.picture.Picture.{Picture as PictureSeen};
+ghost use Rattle.hv_types.specs.declared.settings.Emit.TheVariants.{Stream};
+ghost use Rattle.hv_types.specs.Configuration.{picture_bytes};
 ghost use Rattle.hv_types.specs.Outside.{Rises};
+ghost use Rattle.hv_model.specs.Built.{IsBuilt};
 ghost use Rattle.hv_model.specs.Decoding.{decode_of};
 ghost use Rattle.hv_model.specs.Encoding.{encode_of, recon_of, output};
-ghost use Rattle.hv_run.specs.CommandLine.{AsksFor, IsRefused};
+ghost use Rattle.hv_run.specs.declared.words.WordsError.{WordsError as WordsErrorSeen};
+ghost use Rattle.hv_run.specs.CommandLine.{AsksFor, IsRefused, refusal};
+ghost use Rattle.hv_run.specs.Transfers.{PutsPart};
 ghost use Rattle.hv_run.specs.Outcomes.{pictures_in, IsReadToEnd, EndsWithin, GoesOn, Grows};
 ghost use Rattle.hv_run.specs.Outcomes.{WroteGroups, WroteSome, WrotePart};
-ghost use Rattle.hv_run.specs.Endings.{is_of_input};
+ghost use Rattle.hv_run.specs.Report.{Reports, line_of, short_line, words_line};
+ghost use Rattle.hv_run.specs.Statuses.{is_whole, is_of_input, fixed_line, IsDue, Concludes};
+ghost use Rattle.hv_run.specs.Statuses.{status_of as status_of_error};
 
-use crate::encode::encode;
+use crate::encode::{EncodeError, encode_video};
+use crate::report::{report_error, report_refusal, report_totals};
 use crate::status::Status;
 use crate::words::config_of_words;
-use hv_types::{Gate, Sink, Source, Words};
+use hv_types::{Config, Failed, Gate, Sink, Source, Words};
 use std::alloc::Global;
 use std::sync::Wait;
 use std::thread::Threads;
 
-/// Reads the words of a command line, encodes the video of the source, and writes the output.
+/// Reads the words of a command line, encodes the video of the source, writes the output, and then the
+/// line of the status to the report.
 ///
-/// So far the words are `--width 64 --height 64 --qp Q --levels 0 --group 1 --effort 0`, in this order,
-/// with `Q` in 0 to 51, and the video has at most one picture: raw 8-bit 4:2:0, 6,144 bytes. The report
-/// and the gate aren't used yet, and no thread is started.
+/// The words are `--width W --height H --qp Q --levels L --group 1 --effort 0`, in this order, with any
+/// size that `Config::checked` accepts, `Q` in 0 to 51 and `L` in 0 to 3. The video is raw 8-bit 4:2:0,
+/// at most 400,000 pictures, each of which is a group of its own. A group is read, encoded and written
+/// before the next one is read. The gate isn't used yet, and no thread is started. The first refusal in
+/// the order of words, reading, encoding, writing and report ends the call.
 ///
 /// A clause on `cfg` speaks of accepted words, which ask for these settings; one on `bytes` of a source
 /// that tells its bytes, and that had these left; one on `left` of a source that has these left. What is
@@ -33,18 +44,22 @@ pub fn run_encode<S: Source, K: Sink, P: Sink, G: Gate, R: Threads + Wait + Sync
     words: &Words,
     source: &mut S,
     out: &mut K,
-    _report: &mut P,
+    report: &mut P,
     _gate: &G,
 ) -> Status
     // All pictures were read, and the output is that of the one-thread encoder.
     ensures ok_read { (cfg : SettingsSeen) (bytes : List ℕ) → AsksFor words.now cfg →
-        S.left source.old ≡ Some bytes → result ≡ Status.Ok →
+        S.left source.old ≡ Some bytes → IsTrue (is_whole result) →
         IsReadToEnd cfg bytes (S.left source.new) }
     ensures ok_written { (cfg : SettingsSeen) (bytes : List ℕ) → AsksFor words.now cfg →
-        S.left source.old ≡ Some bytes → result ≡ Status.Ok →
+        S.left source.old ≡ Some bytes → IsTrue (is_whole result) →
         Grows (K.written out.old) (K.written out.new) (output cfg (pictures_in cfg bytes)) }
-    ensures ok_source_faults { result ≡ Status.Ok → S.faults source.new ≡ S.faults source.old }
-    ensures ok_out_faults { result ≡ Status.Ok → K.faults out.new ≡ K.faults out.old }
+    ensures ok_source_faults { IsTrue (is_whole result) → S.faults source.new ≡ S.faults source.old }
+    ensures ok_out_faults { IsTrue (is_whole result) → K.faults out.new ≡ K.faults out.old }
+    ensures ok_report { (cfg : SettingsSeen) (bytes : List ℕ) → AsksFor words.now cfg →
+        S.left source.old ≡ Some bytes → result ≡ Status.Ok →
+        Grows (P.written report.old) (P.written report.new) (line_of cfg (pictures_in cfg bytes)) }
+    ensures ok_report_faults { result ≡ Status.Ok → P.faults report.new ≡ P.faults report.old }
 
     // Decoding the stream of any pictures gives the reconstructed ones, one for each.
     ensures decoded { (cfg : SettingsSeen) (v : List PictureSeen) → AsksFor words.now cfg →
@@ -81,11 +96,100 @@ pub fn run_encode<S: Source, K: Sink, P: Sink, G: Gate, R: Threads + Wait + Sync
         result ≡ Status.NoMemory →
         WroteSome cfg bytes left (K.written out.old) (K.written out.new) }
 
-    // The report isn't touched.
-    ensures report { _report.new ≡ _report.old }
+    // The report has a line, as far as it takes it.
+    ensures report_fault { result ≡ Status.ReportFault →
+        Rises (P.faults report.old) (P.faults report.new) }
+    ensures report_part { (cfg : SettingsSeen) (bytes : List ℕ) → AsksFor words.now cfg →
+        S.left source.old ≡ Some bytes → result ≡ Status.ReportFault →
+        PutsPart (P.written report.old) (P.written report.new) (line_of cfg (pictures_in cfg bytes)) }
+    ensures words_report { (error : WordsErrorSeen) →
+        refusal words.now ≡ Some error → result ≡ Status.Words →
+        Reports record {
+          old = P.written report.old;
+          new = P.written report.new;
+          faults_before = P.faults report.old;
+          faults_now = P.faults report.new;
+        } (words_line error) }
+    ensures short_report { (cfg : SettingsSeen) (have : ℕ) → AsksFor words.now cfg →
+        result ≡ Status.ShortPicture have →
+        Reports record {
+          old = P.written report.old;
+          new = P.written report.new;
+          faults_before = P.faults report.old;
+          faults_now = P.faults report.new;
+        } (short_line have (picture_bytes cfg)) }
+    ensures other_report { (line : List ℕ) → fixed_line result ≡ Some line →
+        Reports record {
+          old = P.written report.old;
+          new = P.written report.new;
+          faults_before = P.faults report.old;
+          faults_now = P.faults report.new;
+        } line }
+
+    // Where nothing fails, the length of the input says how it ends.
+    ensures complete { (cfg : SettingsSeen) (bytes : List ℕ) → AsksFor words.now cfg →
+        S.left source.old ≡ Some bytes →
+        ¬ Rises (S.faults source.old) (S.faults source.new) →
+        ¬ Rises (K.faults out.old) (K.faults out.new) →
+        ¬ Rises (P.faults report.old) (P.faults report.new) →
+        IsDue cfg (length bytes) result }
 {
     match config_of_words(words) {
-        Ok(config) => encode(alloc, &config, source, out),
-        Err(_) => Status::Words,
+        Ok(config) => encode_and_report(alloc, &config, source, out, report),
+        Err(error) => {
+            report_refusal(report, error);
+            Status::Words
+        }
+    }
+}
+
+// Encodes the video and reports how that ends.
+fn encode_and_report<S: Source, K: Sink, P: Sink>(
+    alloc: Global,
+    config: &Config,
+    source: &mut S,
+    out: &mut K,
+    report: &mut P,
+) -> Status
+    requires built { IsBuilt config.now }
+    requires emit { config.now.emit ≡ Stream }
+    ensures { Concludes config.now record {
+      before = S.left source.old;
+      now = S.left source.new;
+      old = K.written out.old;
+      new = K.written out.new;
+      read_faults_before = S.faults source.old;
+      read_faults_now = S.faults source.new;
+      write_faults_before = K.faults out.old;
+      write_faults_now = K.faults out.new;
+    } record {
+      old = P.written report.old;
+      new = P.written report.new;
+      faults_before = P.faults report.old;
+      faults_now = P.faults report.new;
+    } result }
+{
+    match encode_video(alloc, config, source, out) {
+        Ok(totals) => match report_totals(report, totals) {
+            Ok(()) => Status::Ok,
+            Err(Failed) => Status::ReportFault,
+        },
+        Err(error) => {
+            report_error(report, error, config.picture_bytes());
+            status_of(error)
+        }
+    }
+}
+
+// The status of a video that isn't encoded to its end.
+fn status_of(error: EncodeError) -> Status
+    ensures { result ≡ status_of_error error }
+{
+    match error {
+        EncodeError::ReadFault => Status::ReadFault,
+        EncodeError::ShortPicture { have } => Status::ShortPicture { have },
+        EncodeError::WriteFault => Status::WriteFault,
+        EncodeError::NoMemory => Status::NoMemory,
+        EncodeError::TooLong => Status::TooLong,
     }
 }

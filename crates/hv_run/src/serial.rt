@@ -1,52 +1,39 @@
-// One-thread encoding of a group: so far of one IDR picture.
-ghost use Rattle.std.specs.Prelude.{◌≡◌, ◌<◌, [], ◌∷◌, true, length, map, IfOk};
-ghost use Rattle.std.specs.List.{list_all};
+// The units of a video: its parameter sets, and its pictures, which so far are IDR pictures.
+ghost use Rattle.std.specs.Prelude.{◌≡◌, length, IfOk};
 ghost use Rattle.hv_types.specs.declared.picture.Picture.{Picture as Shown};
 ghost use Rattle.hv_model.specs.Built.{IsBuilt};
-ghost use Rattle.hv_model.specs.Encoding.{encode_of, parameter_set as parameter_set_of};
-ghost use Rattle.hv_run.specs.HeaderTables.{field_of, is_codable};
+ghost use Rattle.hv_model.specs.Encoding.{parameter_sets as parameter_sets_of};
+ghost use Rattle.hv_model.specs.Encoding.{picture_unit as picture_unit_of};
 
-use crate::headers::{Field, PPS, SPS, VPS, put_fields};
 use crate::slice::slice_payload;
-use hv_bits::{BitWriter, write_nal};
-use hv_types::{GroupInput, NoMemory};
+use hv_bits::write_nal;
+use hv_decision::Group;
+use hv_params::{write_pps, write_sps, write_vps};
+use hv_types::{Config, NoMemory};
 use std::alloc::Global;
 
-// nal_unit_type (7.4.2.2).
-const VPS_NUT: u8 = 32;
-
-const SPS_NUT: u8 = 33;
-
-const PPS_NUT: u8 = 34;
-
+// nal_unit_type of an IDR picture without leading pictures (7.4.2.2).
 const IDR_N_LP: u8 = 20;
 
-/// The byte stream of a video of one group, which is one picture: at these settings its samples change
-/// nothing.
-pub fn encode_group(alloc: Global, group: &GroupInput) -> Result<Vec<u8>, NoMemory>
-    requires built { IsBuilt group.now.config }
-    requires one { length group.now.pictures ≡ 1 }
-    ensures { IfOk result (λ bytes.
-        (picture : Shown) → bytes.items ≡ encode_of group.now.config (picture ∷ [])) }
+/// The units of the parameter sets of these settings (7.3.2), with their start codes (Annex B):
+/// VPS, SPS and PPS. `NoMemory` where a growth failed.
+pub fn parameter_sets(alloc: Global, config: &Config) -> Result<Vec<u8>, NoMemory>
+    ensures { IfOk result (λ bytes. bytes.items ≡ parameter_sets_of config.now) }
 {
-    let config = group.config();
-    let mut bytes = parameter_set(alloc, VPS_NUT, &VPS)?;
-    bytes.extend_from_slice(&parameter_set(alloc, SPS_NUT, &SPS)?)?;
-    bytes.extend_from_slice(&parameter_set(alloc, PPS_NUT, &PPS)?)?;
-    let payload = slice_payload(alloc, config.settings().qp)?;
-    bytes.extend_from_slice(&write_nal(alloc, IDR_N_LP, 0, &payload)?)?;
+    let mut bytes = write_vps(alloc, config)?;
+    bytes.extend_from_slice(&write_sps(alloc, config)?)?;
+    bytes.extend_from_slice(&write_pps(alloc, config)?)?;
     Ok(bytes)
 }
 
-// A parameter set with its trailing bits, as a unit (7.3.2).
-fn parameter_set(alloc: Global, kind: u8, fields: &[Field]) -> Result<Vec<u8>, NoMemory>
-    requires kind { kind < 64 }
-    requires codable { list_all is_codable fields.now ≡ true }
-    ensures { IfOk result (λ bytes. bytes.items ≡ parameter_set_of kind (map field_of fields.now)) }
+/// The unit of the group's picture, which is an IDR picture, with its start code (7.3.1, Annex B).
+/// At these settings its samples change nothing. `NoMemory` where a growth failed.
+pub fn picture_unit(alloc: Global, group: &Group) -> Result<Vec<u8>, NoMemory>
+    requires built { IsBuilt group.now.input.config }
+    requires one { length group.now.input.pictures ≡ 1 }
+    ensures { IfOk result (λ bytes.
+        (picture : Shown) → bytes.items ≡ picture_unit_of group.now.input.config picture) }
 {
-    let mut writer = BitWriter::new(alloc);
-    put_fields(&mut writer, fields);
-    writer.trail();
-    let payload = writer.finish()?;
-    write_nal(alloc, kind, 0, &payload)
+    let payload = slice_payload(alloc, group)?;
+    write_nal(alloc, IDR_N_LP, 0, &payload)
 }

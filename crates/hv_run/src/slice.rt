@@ -1,95 +1,236 @@
-// The slice of an IDR picture of one coding tree unit with a blank tree.
-ghost use Rattle.std.specs.Prelude.{◌≡◌, ◌≤◌, [], ◌∷◌, false, IfOk};
-ghost use Rattle.hv_types.specs.declared.bins.SliceKind.TheVariants.{I};
+// The slice of an IDR picture in which nothing is chosen: its header, and its data.
+ghost use Rattle.std.specs.Prelude.{◌≡◌, ◌≢◌, ◌*◌, ◌^◌, ◌<◌, ◌≤◌, [], ◌∷◌, ◌++◌, true, false, IfOk};
 ghost use Rattle.hv_types.specs.Bins.{Puts};
 ghost use Rattle.hv_model.specs.Bits.{bytes_of};
 ghost use Rattle.hv_model.specs.Fields.{aligned, bits_of_fields};
+ghost use Rattle.hv_model.specs.Units.{last_of};
 ghost use Rattle.hv_model.specs.Headers.{idr_slice as idr_slice_of};
-ghost use Rattle.hv_model.specs.Bins.{context, bin, prediction_bins, transform_bins, bins};
-ghost use Rattle.hv_model.specs.CodeWord.{word};
-ghost use Rattle.hv_model.specs.Encoding.{coded_unit, slice_payload as slice_payload_of};
+ghost use Rattle.hv_model.specs.Structure.{qp_at};
+ghost use Rattle.hv_model.specs.Trees.{Off, blank_tree};
+ghost use Rattle.hv_model.specs.Bins.{bin, site_at, sites, merge_bins, part_bins};
+ghost use Rattle.hv_model.specs.Bins.{prediction_bins, luma_bins, transform_bins, unit_bins};
+ghost use Rattle.hv_model.specs.Bins.{split_bins, tree_bins, bins, slice_bins};
+ghost use Rattle.hv_model.specs.ModeDecision.{best};
+ghost use Rattle.hv_model.specs.Encoding.{coded_units, picture_sites, slice_data_of};
+ghost use Rattle.hv_model.specs.Encoding.{slice_payload as slice_payload_of};
 
-use crate::headers::{idr_slice, put_fields};
 use hv_bits::BitWriter;
 use hv_cabac::{BinSink, Ctx, CtxTable, Encoder, SliceKind};
+use hv_decision::Group;
+use hv_model::{
+    aligned_bits_are_whole, bytes_append, coded_units_are_valid, sites_are_there, slice_data_ends,
+    slices_end,
+};
+use hv_slice::write_slice_header;
 use hv_types::NoMemory;
 use std::alloc::Global;
 
-/// The payload of the slice: its header, a byte_alignment, and its data (7.3.2.9).
-pub fn slice_payload(alloc: Global, qp: u8) -> Result<Vec<u8>, NoMemory>
-    requires { qp ≤ 51 }
-    ensures { IfOk result (λ payload. payload.items ≡ slice_payload_of qp) }
+// The side of a coding tree block in luma samples (CtbSizeY).
+const CTB_SIDE: u32 = 64;
+
+// The size of a node that is a whole coding tree block. A node's side is 8 << size luma samples.
+const CTB_SIZE: u8 = 3;
+
+/// The payload of the slice of a group's first picture, an IDR picture in which nothing is chosen
+/// (7.3.2.9): its header with a byte_alignment, and its data. `NoMemory` where a growth failed.
+pub fn slice_payload(alloc: Global, group: &Group) -> Result<Vec<u8>, NoMemory>
+    ensures value { IfOk result (λ payload.
+        payload.items ≡ slice_payload_of (qp_at group.now.input.config.qp 0)
+        (picture_sites group.now.input.config)) }
+    // as the payload of a unit has to (7.4.2)
+    ensures ends { IfOk result (λ payload. last_of payload.items ≢ 0) }
 {
-    let mut payload = header(alloc, qp)?;
-    let data = slice_data(alloc, qp)?;
+    bytes_append();
+    aligned_bits_are_whole();
+    slices_end();
+    let config = group.input.config();
+    let qp = group.structure.qp(0, config.settings().qp);
+    let mut payload = header(alloc, group)?;
+    let data = slice_data(alloc, qp, config.padded_width(), config.padded_height())?;
     payload.extend_from_slice(&data)?;
     Ok(payload)
 }
 
-// The header with its byte_alignment (7.3.6.1, 7.3.2.12).
-fn header(alloc: Global, qp: u8) -> Result<Vec<u8>, NoMemory>
-    requires { qp ≤ 51 }
-    ensures { IfOk result (λ bytes. bytes.items ≡ bytes_of (aligned (bits_of_fields (idr_slice_of qp)))) }
-{
-    let mut writer = BitWriter::new(alloc);
-    put_fields(&mut writer, &idr_slice(qp));
-    writer.trail();
-    writer.finish()
-}
-
 // The slice data (7.3.8.1), as a code word with zeros to the byte.
-fn slice_data(alloc: Global, qp: u8) -> Result<Vec<u8>, NoMemory>
-    ensures { IfOk result (λ bytes. bytes.items ≡ bytes_of (word I qp (bins coded_unit))) }
+fn slice_data(alloc: Global, qp: u8, width: u32, height: u32) -> Result<Vec<u8>, NoMemory>
+    requires width_least { 8 ≤ width }
+    requires width_most { width ≤ 4096 }
+    requires height_least { 8 ≤ height }
+    requires height_most { height ≤ 2176 }
+    ensures { IfOk result (λ bytes.
+        bytes.items ≡ bytes_of (slice_data_of qp (sites width height))) }
 {
+    sites_are_there();
+    coded_units_are_valid();
+    slice_data_ends();
     let mut encoder = Encoder::new(alloc, SliceKind::I, qp);
-    put_coding_tree_unit(&mut encoder);
+    put_slice_data(&mut encoder, width, height);
     encoder.finish()
 }
 
-// coding_tree_unit (7.3.8.2), and end_of_slice_segment_flag.
-fn put_coding_tree_unit<B: BinSink>(sink: &mut B)
-    ensures { Puts B.stands_for sink.old sink.new (bins coded_unit) }
+// slice_segment_data (7.3.8.1) of a picture of these sides in luma samples: the coding tree units
+// of its blocks, in raster order. The last one ends the slice.
+fn put_slice_data<B: BinSink>(sink: &mut B, width: u32, height: u32)
+    requires width { width ≤ 4096 }
+    requires height { height ≤ 2176 }
+    ensures { Puts B.stands_for sink.old sink.new
+        (slice_bins (sites width height) (coded_units (sites width height))) }
 {
-    put_element(sink, CtxTable::SaoType);
-    put_element(sink, CtxTable::SaoType);
-    put_element(sink, CtxTable::Split);
+    let columns = width.div_ceil(CTB_SIDE);
+    let count = columns * height.div_ceil(CTB_SIDE);
+    for index in 0..count {
+        let column = index % columns;
+        let row = index / columns;
+        put_coding_tree_unit(sink, width, height, column, row, index + 1 == count);
+    }
+}
+
+// coding_tree_unit (7.3.8.2) of the block in this column and row, from 0, of a picture of these
+// sides in luma samples, and end_of_slice_segment_flag.
+fn put_coding_tree_unit<B: BinSink>(
+    sink: &mut B,
+    width: u32,
+    height: u32,
+    column: u32,
+    row: u32,
+    is_last: bool,
+)
+    requires across { 64 * column < width }
+    requires down { 64 * row < height }
+    ensures { Puts B.stands_for sink.old sink.new (bins (site_at width height column row) record {
+      sao = Off;
+      tree = best (site_at width height column row);
+      end_of_slice_segment_flag = is_last;
+    }) }
+{
+    put_merge(sink, column > 0);
+    put_merge(sink, row > 0);
+    put_element(sink, CtxTable::SaoType, 0, false);
+    put_element(sink, CtxTable::SaoType, 0, false);
+    put_quadtree(
+        sink,
+        CTB_SIZE,
+        width - CTB_SIDE * column,
+        height - CTB_SIDE * row,
+    );
+    sink.terminate(is_last);
+}
+
+// sao_merge_left_flag or sao_merge_up_flag, 0, where there is a block to merge with (7.3.8.3).
+fn put_merge<B: BinSink>(sink: &mut B, is_there: bool)
+    ensures { Puts B.stands_for sink.old sink.new (merge_bins is_there) }
+{
+    if is_there {
+        put_element(sink, CtxTable::SaoMerge, 0, false);
+    }
+}
+
+// coding_quadtree (7.3.8.4) of a node of this size, 0 to 3, in which nothing is chosen. `width` and
+// `height` say how much of the picture there is from its upper left corner on, in luma samples: a
+// node that crosses the picture's edge is split without a flag, down to 8x8, and nothing is coded of
+// one outside.
+fn put_quadtree<B: BinSink>(sink: &mut B, size: u8, width: u32, height: u32)
+    requires size { size ≤ 3 }
+    ensures { Puts B.stands_for sink.old sink.new (tree_bins size (blank_tree size width height)) }
+{
+    if width == 0 || height == 0 {
+        return;
+    }
+    if size > 0 && (width < side(size) || height < side(size)) {
+        let right = width.saturating_sub(side(size - 1));
+        let below = height.saturating_sub(side(size - 1));
+        put_quadtree(sink, size - 1, width, height);
+        put_quadtree(sink, size - 1, right, height);
+        put_quadtree(sink, size - 1, width, below);
+        put_quadtree(sink, size - 1, right, below);
+    } else {
+        put_coding_unit(sink, size);
+    }
+}
+
+// The side of a node in luma samples: 8, 16, 32 or 64.
+fn side(size: u8) -> u32
+    requires { size ≤ 3 }
+    ensures { result ≡ 8 * 2 ^ size }
+{
+    8 << size
+}
+
+// split_cu_flag, 0, and coding_unit (7.3.8.5) of a node of this size.
+fn put_coding_unit<B: BinSink>(sink: &mut B, size: u8)
+    ensures { Puts B.stands_for sink.old sink.new (split_bins size ++ unit_bins size) }
+{
+    put_split_flag(sink, size);
+    put_part_mode(sink, size);
     put_prediction(sink);
-    put_transform_tree(sink);
-    sink.terminate(true);
+    put_transform_tree(sink, size);
+}
+
+// split_cu_flag, 0: a unit of 8x8 has none, and no unit at the left or above is deeper.
+fn put_split_flag<B: BinSink>(sink: &mut B, size: u8)
+    ensures { Puts B.stands_for sink.old sink.new (split_bins size) }
+{
+    if size > 0 {
+        put_element(sink, CtxTable::Split, 0, false);
+    }
+}
+
+// part_mode, which a unit of 8x8 has alone: PART_2Nx2N.
+fn put_part_mode<B: BinSink>(sink: &mut B, size: u8)
+    ensures { Puts B.stands_for sink.old sink.new (part_bins size) }
+{
+    if size == 0 {
+        put_element(sink, CtxTable::PartMode, 0, true);
+    }
 }
 
 // Mode DC as the second of the most probable modes, and the chroma mode that follows it (7.3.8.5).
 fn put_prediction<B: BinSink>(sink: &mut B)
     ensures { Puts B.stands_for sink.old sink.new prediction_bins }
 {
-    sink.bin(first(CtxTable::PrevIntra), true);
+    put_element(sink, CtxTable::PrevIntra, 0, true);
     sink.bypass(true);
     sink.bypass(false);
-    put_element(sink, CtxTable::ChromaMode);
+    put_element(sink, CtxTable::ChromaMode, 0, false);
 }
 
-// transform_tree without a level but 0 (7.3.8.8).
-fn put_transform_tree<B: BinSink>(sink: &mut B)
-    ensures { Puts B.stands_for sink.old sink.new transform_bins }
+// transform_tree without a level but 0 (7.3.8.8): cbf_cb and cbf_cr of the whole, and cbf_luma.
+fn put_transform_tree<B: BinSink>(sink: &mut B, size: u8)
+    ensures { Puts B.stands_for sink.old sink.new (transform_bins size) }
 {
-    put_element(sink, CtxTable::CbfChroma);
-    put_element(sink, CtxTable::CbfChroma);
-    put_element(sink, CtxTable::CbfLuma);
-    put_element(sink, CtxTable::CbfLuma);
-    put_element(sink, CtxTable::CbfLuma);
-    put_element(sink, CtxTable::CbfLuma);
+    put_element(sink, CtxTable::CbfChroma, 0, false);
+    put_element(sink, CtxTable::CbfChroma, 0, false);
+    put_luma_flags(sink, size);
 }
 
-// A syntax element that is 0.
-fn put_element<B: BinSink>(sink: &mut B, table: CtxTable)
-    ensures { Puts B.stands_for sink.old sink.new (bin table 0 false ∷ []) }
+// cbf_luma, 0: of a unit of 64x64 that of each of its four transform blocks of 32x32.
+fn put_luma_flags<B: BinSink>(sink: &mut B, size: u8)
+    ensures { Puts B.stands_for sink.old sink.new (luma_bins size) }
 {
-    sink.bin(first(table), false);
+    if size < CTB_SIZE {
+        put_element(sink, CtxTable::CbfLuma, 1, false);
+    } else {
+        put_element(sink, CtxTable::CbfLuma, 0, false);
+        put_element(sink, CtxTable::CbfLuma, 0, false);
+        put_element(sink, CtxTable::CbfLuma, 0, false);
+        put_element(sink, CtxTable::CbfLuma, 0, false);
+    }
 }
 
-// The first context variable of a table.
-fn first(table: CtxTable) -> Ctx
-    ensures { result ≡ context table 0 }
+// A syntax element of one bin, coded with the context variable at this place of its table.
+fn put_element<B: BinSink>(sink: &mut B, table: CtxTable, index: u8, value: bool)
+    ensures { Puts B.stands_for sink.old sink.new (bin table index value ∷ []) }
 {
-    Ctx { table, index: 0 }
+    sink.bin(Ctx { table, index }, value);
+}
+
+// The header with its byte_alignment (7.3.6.1, 7.3.2.12).
+fn header(alloc: Global, group: &Group) -> Result<Vec<u8>, NoMemory>
+    ensures { IfOk result (λ bytes.
+        bytes.items ≡ bytes_of (aligned (bits_of_fields
+        (idr_slice_of (qp_at group.now.input.config.qp 0))))) }
+{
+    let mut writer = BitWriter::new(alloc);
+    write_slice_header(&mut writer, group, 0, &[]);
+    writer.finish()
 }

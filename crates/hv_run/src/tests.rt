@@ -2,7 +2,8 @@
 // stream, which come from outside.
 use crate::{Status, run_encode};
 use hv_types::{
-    Failed, MemorySink, MemorySource, NoMemory, OpenGate, Sink, Source, SteadySink, Words,
+    Failed, MemorySink, MemorySource, NoMemory, OpenGate, Sink, Source, SteadySink, SteadySource,
+    Words,
 };
 use std::alloc::Global;
 use std::process::Abort;
@@ -12,9 +13,9 @@ use std::thread::Threads;
 
 const COMMAND: &str = "--width 64 --height 64 --qp 26 --levels 0 --group 1 --effort 0";
 
-/// The stream of one picture of 64x64 at quantiser 26, whatever its samples.
+/// The stream of two pictures of 64x64 at quantiser 26, whatever their samples.
 #[rattlefmt::skip]
-const STREAM: [u8; 80] = [
+const STREAM: [u8; 92] = [
     // the video parameter set
     0, 0, 0, 1, 0x40, 0x01, 0x0C, 0x01, 0xFF, 0xFF, 0x01, 0x60, 0, 0, 3, 0, 0x90, 0, 0, 3, 0, 0, 3, 0,
     0x99, 0xAC, 0x09,
@@ -23,7 +24,8 @@ const STREAM: [u8; 80] = [
     0x81, 0x05, 0x96, 0xB9, 0x24, 0xCA, 0x08,
     // the picture parameter set
     0, 0, 0, 1, 0x44, 0x01, 0xC0, 0x71, 0x80, 0x12,
-    // the slice
+    // the slices
+    0, 0, 0, 1, 0x28, 0x01, 0xAF, 0xC0, 0xE8, 0x73, 0x7F, 0x80,
     0, 0, 0, 1, 0x28, 0x01, 0xAF, 0xC0, 0xE8, 0x73, 0x7F, 0x80,
 ];
 
@@ -57,68 +59,148 @@ fn small(alloc: Global, at_most: u32, failing: &[u64]) -> Result<MemorySink, NoM
     MemorySink::new(alloc, 100, at_most.max(1), failing.to_vec(alloc)?)
 }
 
-fn encode_over<R: Threads + Wait + Sync>(
-    rt: &R,
-    alloc: Global,
-    words: &Words,
-    source: &mut MemorySource,
-    out: &mut MemorySink,
-) -> Status {
-    let mut report = SteadySink::new();
-    run_encode(rt, alloc, words, source, out, &mut report, &OpenGate)
-}
-
-/// Encodes so many bytes, and sees how that ends, and how much of the stream is written.
+/// Encodes, and sees how that ends, how much of the stream is then written, and what is reported.
 fn see<R: Abort + Threads + Wait + Sync>(
     rt: &R,
     alloc: Global,
-    bytes: usize,
     mut source: MemorySource,
     mut out: MemorySink,
+    mut told: MemorySink,
     want: (Status, usize),
+    report: &str,
 ) -> Result<(), Fail> {
     let words = words_of(alloc, COMMAND)?;
-    let status = encode_over(rt, alloc, &words, &mut source, &mut out);
-    assert_eq!(rt; status, want.0, "{bytes} bytes");
-    assert_eq!(rt; Some(out.written()), STREAM.get(..want.1), "{bytes} bytes");
+    let status = run_encode(
+        rt,
+        alloc,
+        &words,
+        &mut source,
+        &mut out,
+        &mut told,
+        &OpenGate,
+    );
+    assert_eq!(rt; status, want.0, "{report}");
+    assert_eq!(rt; Some(out.written()), STREAM.get(..want.1), "{report}");
+    assert_eq!(rt; told.written(), report.as_bytes());
     Ok(())
 }
 
+/// Nothing, less than a picture, one, one and a byte, and two, by few or many bytes a call.
 #[test]
 fn inputs_of_all_lengths(rt: HostRuntime) -> Result<(), Fail> {
-    for (bytes, given, status, written) in [
-        (0, 9000, Status::Ok, 0),
-        (1, 9000, Status::ShortPicture { have: 1 }, 0),
-        (6143, 9000, Status::ShortPicture { have: 6143 }, 0),
-        (6143, 7, Status::ShortPicture { have: 6143 }, 0),
-        (6144, 9000, Status::Ok, 80),
-        (6144, 7, Status::Ok, 80),
-        (6145, 9000, Status::TooLong, 80),
-        (6145, 7, Status::TooLong, 80),
+    for (bytes, status, written, report) in [
+        (
+            0,
+            Status::Ok,
+            0,
+            "encoded 0 pictures in 0 groups, 0 bytes\n",
+        ),
+        (
+            1,
+            Status::ShortPicture { have: 1 },
+            0,
+            "short picture: 1 of 6144 bytes\n",
+        ),
+        (
+            6143,
+            Status::ShortPicture { have: 6143 },
+            0,
+            "short picture: 6143 of 6144 bytes\n",
+        ),
+        (
+            6144,
+            Status::Ok,
+            80,
+            "encoded 1 pictures in 1 groups, 80 bytes\n",
+        ),
+        (
+            6145,
+            Status::ShortPicture { have: 1 },
+            80,
+            "short picture: 1 of 6144 bytes\n",
+        ),
+        (
+            12288,
+            Status::Ok,
+            92,
+            "encoded 2 pictures in 2 groups, 92 bytes\n",
+        ),
     ] {
-        let source = grey(rt.alloc(), bytes, given, &[])?;
-        let out = small(rt.alloc(), 1, &[])?;
-        see(&rt, rt.alloc(), bytes, source, out, (status, written))?;
+        for (given, taken) in [(1, 1), (7, 3), (9000, 100)] {
+            let source = grey(rt.alloc(), bytes, given, &[])?;
+            let out = small(rt.alloc(), taken, &[])?;
+            let told = small(rt.alloc(), taken, &[])?;
+            see(
+                &rt,
+                rt.alloc(),
+                source,
+                out,
+                told,
+                (status, written),
+                report,
+            )?;
+        }
     }
     Ok(())
 }
 
-/// The number is that of the call that fails: the third read asks for the byte behind the picture.
+/// The number is that of the call that fails: two reads a picture and one behind them, and four
+/// writes of the first picture and one of the second.
 #[test]
 fn calls_that_fail(rt: HostRuntime) -> Result<(), Fail> {
-    for (read, write, status, written) in [
-        (0, 9, Status::ReadFault, 0),
-        (1, 9, Status::ReadFault, 0),
-        (2, 9, Status::ReadFault, 80),
-        (9, 0, Status::WriteFault, 0),
-        (9, 1, Status::WriteFault, 20),
-        (9, 2, Status::WriteFault, 40),
-        (9, 3, Status::WriteFault, 60),
-        (9, 4, Status::Ok, 80),
+    for (read, write, status, written, report) in [
+        (0, 9, Status::ReadFault, 0, "read fault\n"),
+        (1, 9, Status::ReadFault, 0, "read fault\n"),
+        (2, 9, Status::ReadFault, 80, "read fault\n"),
+        (4, 9, Status::ReadFault, 92, "read fault\n"),
+        (9, 0, Status::WriteFault, 0, "write fault\n"),
+        (9, 1, Status::WriteFault, 20, "write fault\n"),
+        (9, 4, Status::WriteFault, 80, "write fault\n"),
+        (
+            9,
+            9,
+            Status::Ok,
+            92,
+            "encoded 2 pictures in 2 groups, 92 bytes\n",
+        ),
     ] {
-        let source = grey(rt.alloc(), 6144, 3072, &[read])?;
+        let source = grey(rt.alloc(), 12288, 3072, &[read])?;
         let out = small(rt.alloc(), 20, &[write])?;
-        see(&rt, rt.alloc(), 6144, source, out, (status, written))?;
+        let told = small(rt.alloc(), 100, &[])?;
+        see(
+            &rt,
+            rt.alloc(),
+            source,
+            out,
+            told,
+            (status, written),
+            report,
+        )?;
+    }
+    Ok(())
+}
+
+/// A report that fails changes no status but `Ok`, and the output is whole then.
+#[test]
+fn reports_that_fail(rt: HostRuntime) -> Result<(), Fail> {
+    for (bytes, fails_at, status, written, report) in [
+        (6144, 0, Status::ReportFault, 80, ""),
+        (6144, 1, Status::ReportFault, 80, "encod"),
+        (6144, 2, Status::ReportFault, 80, "encoded "),
+        (6145, 0, Status::ShortPicture { have: 1 }, 80, ""),
+    ] {
+        let source = grey(rt.alloc(), bytes, 9000, &[])?;
+        let out = small(rt.alloc(), 100, &[])?;
+        let told = small(rt.alloc(), 5, &[fails_at])?;
+        see(
+            &rt,
+            rt.alloc(),
+            source,
+            out,
+            told,
+            (status, written),
+            report,
+        )?;
     }
     Ok(())
 }
@@ -126,22 +208,56 @@ fn calls_that_fail(rt: HostRuntime) -> Result<(), Fail> {
 /// Source and sink fail at their first call, which the test makes itself.
 #[test]
 fn words_that_are_refused(rt: HostRuntime) -> Result<(), Fail> {
-    for line in [
-        "",
-        "--width 64 --height 64 --qp 26 --levels 0 --group 1 --speed 0",
-        "--width 64 --height 64 --qp 26 --levels 0 --group 1 --effort 0 more",
-        "--width 64 --height 64 --levels 0 --qp 26 --group 1 --effort 0",
-        "--width 64 --height 64 --qp +26 --levels 0 --group 1 --effort 0",
-        "--width 64 --height 64 --qp 00000000026 --levels 0 --group 1 --effort 0",
-        "--width 64 --height 64 --qp 52 --levels 0 --group 1 --effort 0",
-        "--width 65 --height 64 --qp 26 --levels 0 --group 1 --effort 0",
-        "--width 66 --height 64 --qp 26 --levels 0 --group 1 --effort 0",
+    for (line, report) in [
+        ("", "bad words\n"),
+        (
+            "--width 64 --height 64 --qp 26 --levels 0 --group 1 --speed 0",
+            "bad words\n",
+        ),
+        (
+            "--width 64 --height 64 --qp 26 --levels 0 --group 1 --effort 0 more",
+            "bad words\n",
+        ),
+        (
+            "--width 64 --height 64 --qp +26 --levels 0 --group 1 --effort 0",
+            "bad words\n",
+        ),
+        (
+            "--width 65 --height 64 --qp 26 --levels 0 --group 1 --effort 0",
+            "odd size\n",
+        ),
+        (
+            "--width 64 --height 2178 --qp 26 --levels 0 --group 1 --effort 0",
+            "size out of range\n",
+        ),
+        (
+            "--width 4096 --height 2176 --qp 26 --levels 0 --group 31 --effort 0",
+            "group too large\n",
+        ),
+        (
+            "--width 64 --height 64 --qp 52 --levels 0 --group 1 --effort 0",
+            "value out of range\n",
+        ),
+        (
+            "--width 64 --height 64 --qp 26 --levels 0 --group 2 --effort 0",
+            "not built\n",
+        ),
     ] {
         let words = words_of(rt.alloc(), line)?;
         let mut source = grey(rt.alloc(), 6144, 9000, &[0])?;
         let mut out = small(rt.alloc(), 80, &[0])?;
-        let status = encode_over(&rt, rt.alloc(), &words, &mut source, &mut out);
+        let mut told = small(rt.alloc(), 80, &[])?;
+        let status = run_encode(
+            &rt,
+            rt.alloc(),
+            &words,
+            &mut source,
+            &mut out,
+            &mut told,
+            &OpenGate,
+        );
         assert_eq!(rt; status, Status::Words, "{line}");
+        assert_eq!(rt; told.written(), report.as_bytes(), "{line}");
         assert_eq!(rt; source.read(&mut [0; 1]), Err(Failed), "{line}");
         assert_eq!(rt; out.write(&[0]), Err(Failed), "{line}");
         assert_eq!(rt; out.written(), [].as_slice(), "{line}");
@@ -149,16 +265,48 @@ fn words_that_are_refused(rt: HostRuntime) -> Result<(), Fail> {
     Ok(())
 }
 
-/// Encodes a picture, if there is memory for the words, the source and the sink.
+/// A byte behind 400,000 pictures of 8x8, each of 96 bytes.
+#[test]
+fn a_video_that_is_too_long(rt: HostRuntime) -> Result<(), Fail> {
+    let line = "--width 8 --height 8 --qp 26 --levels 3 --group 1 --effort 0";
+    let words = words_of(rt.alloc(), line)?;
+    let mut source = SteadySource::new(vec![in rt.alloc(); 85; 96 * 400_000 + 1]?);
+    let mut report = small(rt.alloc(), 80, &[])?;
+    let status = run_encode(
+        &rt,
+        rt.alloc(),
+        &words,
+        &mut source,
+        &mut SteadySink::new(),
+        &mut report,
+        &OpenGate,
+    );
+    assert_eq!(rt; status, Status::TooLong);
+    assert_eq!(rt; report.written(), b"more than 400000 pictures\n".as_slice());
+    assert_eq!(rt; source.read(&mut [0; 1]), Ok(0));
+    Ok(())
+}
+
+/// Encodes a picture, if there is memory for the words, the source and the sinks.
 fn encode_picture<R: Abort + Threads + Wait + Sync>(rt: &R, alloc: Global) -> Result<(), NoMemory> {
     let words = words_of(alloc, COMMAND)?;
     let mut source = grey(alloc, 6144, 9000, &[])?;
     let mut out = small(alloc, 80, &[])?;
-    match encode_over(rt, alloc, &words, &mut source, &mut out) {
-        Status::Ok => assert_eq!(rt; out.written(), STREAM.as_slice()),
+    let mut report = small(alloc, 80, &[])?;
+    match run_encode(
+        rt,
+        alloc,
+        &words,
+        &mut source,
+        &mut out,
+        &mut report,
+        &OpenGate,
+    ) {
+        Status::Ok => assert_eq!(rt; Some(out.written()), STREAM.get(..80)),
         status => {
             assert_eq!(rt; status, Status::NoMemory);
             assert_eq!(rt; out.written(), [].as_slice());
+            assert_eq!(rt; report.written(), b"no memory\n".as_slice());
         }
     }
     Ok(())

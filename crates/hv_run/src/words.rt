@@ -45,12 +45,8 @@ fn checked(settings: Settings) -> Result<Config, WordsError>
 fn is_built(settings: &Settings) -> bool
     ensures { result ≡ is_accepted settings.now }
 {
-    settings.width == 64
-        && settings.height == 64
-        && settings.levels == 0
-        && settings.group == 1
+    settings.group == 1
         && settings.effort == 0
-        && settings.qp <= 51
         && settings.workers == 1
         && settings.emit == Emit::Stream
         && settings.synth.is_none()

@@ -1,5 +1,5 @@
 -- Reference sets, entry by entry.
-use Rattle.std.proofs.Common.{◌≡◌, ℕ, zero, suc, ◌+◌, ◌-◌, ◌<◌, ◌≤◌, ◌∙◌, sym, ap, ap₂, Bool, true, false, refl, List, [], ◌∷◌, ◌++◌, length, map, slice_index_or, arith, cond, nat_lt, nat_eq, drop}
+use Rattle.std.proofs.Common.{◌≡◌, ℕ, zero, suc, ◌+◌, ◌-◌, ◌<◌, ◌≤◌, ◌∙◌, sym, ap, ap₂, Bool, true, false, refl, List, [], ◌∷◌, ◌++◌, length, map, slice_index_or, arith, cond, nat_lt, nat_eq, drop, replicate}
 use Rattle.std.specs.List.{list_any}
 use Rattle.std.specs.Int.{abs_diff}
 use Rattle.std.proofs.lemmas.List.{append_assoc, map-append, drop_more, get_or-map, length-map, length-append}
@@ -54,6 +54,88 @@ pub map_rising_push : {A : Type 0} (f : ℕ → A) (n : ℕ) (xs : List A) → x
 map_rising_push f n xs e =
     ap (λ t. t ++ f n ∷ []) e ∙ sym (map-append f (rising n 0) (n ∷ []))
     ∙ sym (ap (map f) (rising_push n 0 ∙ ap (λ k. rising n 0 ++ k ∷ []) (none_more n)))
+
+-- ---- the lives of all pictures
+
+-- numbers that stand one after another, each by its place
+pub places_are : {A : Type 0} (f : ℕ → A) (d : A) (xs : List A) (from : ℕ) →
+    ((i : ℕ) → i < length xs → slice_index_or xs i d ≡ f (from + i)) →
+    xs ≡ map f (rising (length xs) from)
+places_are f d [] from h = refl
+places_are f d (x ∷ xs) from h =
+    let first : x ≡ f from = h 0 (omega arith) ∙ ap f (omega arith) in
+    ap₂ (λ y ys. y ∷ ys) first
+    (places_are f d xs (from + 1) (λ i l. h (suc i) (omega arith) ∙ ap f (omega arith)))
+
+-- as many as pictures
+pub lives_counted : {A : Type 0} (f : ℕ → A) (n from : ℕ) → length (map f (rising n from)) ≡ n
+lives_counted f zero from = refl
+lives_counted f (suc n) from = ap suc (lives_counted f n (from + 1))
+
+-- one of them
+pub life_of : {A : Type 0} (f : ℕ → A) (d : A) (n from i : ℕ) → i < n →
+    slice_index_or (map f (rising n from)) i d ≡ f (from + i)
+life_of f d zero from i l = absurd (omega arith)
+life_of f d (suc n) from zero l = ap f (omega arith)
+life_of f d (suc n) from (suc i) l = life_of f d n (from + 1) i (omega arith) ∙ ap f (omega arith)
+
+-- nothing is coded behind the order
+drop_all : {A : Type 0} (xs : List A) → drop (length xs) xs ≡ []
+drop_all [] = refl
+drop_all (x ∷ xs) = drop_all xs
+
+replicate_same : {A : Type 0} (f : ℕ → A) (x : A) (n from : ℕ) → ((p : ℕ) → f p ≡ x) →
+    replicate n x ≡ map f (rising n from)
+replicate_same f x zero from h = refl
+replicate_same f x (suc n) from h =
+    ap₂ (λ y ys. y ∷ ys) (sym (h from)) (replicate_same f x n (from + 1) h)
+
+pub lives_begin : (order : List CodedPicture) (lives : List Life) →
+    lives ≡ replicate (length order) (the_life (length order) 0) →
+    lives ≡
+    map (life_from (length order) (drop (length order) (map coded_as order))) (rising (length order) 0)
+lives_begin order lives e =
+    let none : drop (length order) (map coded_as order) ≡ [] =
+    ap (λ k. drop k (map coded_as order)) (sym (length-map order coded_as)) ∙ drop_all (map coded_as order) in
+    e
+    ∙ replicate_same (life_from (length order) (drop (length order) (map coded_as order)))
+    (the_life (length order) 0) (length order) 0
+    (λ p. ap (λ rest. life_from (length order) rest p) none ∙ ap (λ k. the_life k 0) (omega arith))
+
+-- each steps back
+pub lives_go_back : (order : List CodedPicture) (place at : ℕ) (d : CodedPicture) (e : Life)
+    (lives result : List Life) → 0 < place → place ≤ length order → at ≡ place - 1 →
+    lives ≡ map (life_from place (drop place (map coded_as order))) (rising (length order) 0) →
+    length result ≡ length lives →
+    ((p : ℕ) → p < length lives → slice_index_or result p e ≡
+    life_before (slice_index_or lives p e) (coded_as (slice_index_or order at d)) (place - 1) p) →
+    result ≡
+    map (life_from (place - 1) (drop (place - 1) (map coded_as order))) (rising (length order) 0)
+lives_go_back order place at d e lives result some within is before count each =
+    let n : ℕ = length order in
+    let f : ℕ → Life = life_from place (drop place (map coded_as order)) in
+    let g : ℕ → Life = life_from (place - 1) (drop (place - 1) (map coded_as order)) in
+    let many : length lives ≡ n = ap length before ∙ lives_counted f n 0 in
+    let found : (p : ℕ) → p < length result → slice_index_or result p e ≡ g (0 + p) = λ p l.
+    life_walk order place p at d (slice_index_or lives p e) (slice_index_or result p e) some within is
+    (ap (λ t. slice_index_or t p e) before ∙ life_of f e n 0 p (omega (arith, l, count, many)) ∙
+    ap f (none_more p))
+    (each p (omega (arith, l, count))) ∙
+    ap g (sym (none_more p)) in
+    places_are g e result 0 found ∙ ap (λ k. map g (rising k 0)) (count ∙ many)
+
+maps_same : {A B : Type 0} (f g : A → B) (xs : List A) → ((x : A) → f x ≡ g x) → map f xs ≡ map g xs
+maps_same f g [] h = refl
+maps_same f g (x ∷ xs) h = ap₂ (λ y ys. y ∷ ys) (h x) (maps_same f g xs h)
+
+-- the walk has come to the first place
+pub lives_whole : (order : List CodedPicture) (place : ℕ) (lives : List Life) → place ≤ 0 →
+    lives ≡ map (life_from place (drop place (map coded_as order))) (rising (length order) 0) →
+    AreLives order lives
+lives_whole order place lives none e =
+    e ∙
+    maps_same (life_from place (drop place (map coded_as order))) (life_in (map coded_as order))
+    (rising (length order) 0) (λ p. life_whole (map coded_as order) place p none)
 
 -- the life of a picture, in the list of them all
 pub life_at : (order : List Coded) (n picture : ℕ) (d : Life) (lives : List Life) →

@@ -1,8 +1,9 @@
 // Reference picture sets (8.3.2).
-ghost use Rattle.std.specs.Prelude.{◌≡◌, ◌+◌, ◌<◌, ◌≤◌, map, length, IfOk, OnOk, ℕ, cond, ◌++◌, ◌∷◌, []};
+ghost use Rattle.std.specs.Prelude.{◌≡◌, ◌+◌, ◌<◌, ◌≤◌, map, length, IfOk, OnOk, ℕ, slice_index_or, cond, ◌++◌, ◌∷◌, []};
 ghost use Rattle.hv_model.specs.Structure.{rising, place_in, set_in};
 ghost use Rattle.hv_decision.specs.Coding.{coded_as};
-ghost use Rattle.hv_decision.specs.Sets.{AreLives, life_in, row_in, row_as, entry_before, entry_after, kept_by, is_kept_at};
+ghost use Rattle.hv_decision.specs.declared.row.Life.{Life as LifeSeen};
+ghost use Rattle.hv_decision.specs.Sets.{AreLives, life_before, row_in, row_as, entry_before, entry_after, kept_by, is_kept_at};
 
 use crate::coded::CodedPicture;
 use crate::row::{Life, Row, SetEntry};
@@ -27,31 +28,35 @@ pub(crate) fn rows(alloc: Global, order: &[CodedPicture]) -> Result<Vec<Row>, No
     Ok(rows)
 }
 
-// The life of each picture, in output order.
+// The life of each picture, in output order, by one walk backwards over the coding order.
 fn lives(alloc: Global, order: &[CodedPicture]) -> Result<Vec<Life>, NoMemory>
     requires most { length order.now ≤ 64 }
     ensures { IfOk result (λ lives. AreLives order.now lives.items) }
 {
-    let mut lives = Vec::with_capacity(alloc, order.len())?;
-    for picture in 0..order.len() as u8 {
-        lives.push(life(order, picture))?;
+    let uncoded = Life {
+        place: order.len() as u8,
+        until: 0,
+    };
+    let mut lives = vec![in alloc; uncoded; order.len()]?;
+    for place in (0..order.len() as u8).rev() {
+        step_back(&mut lives, &order[usize::from(place)], place);
     }
     Ok(lives)
 }
 
-// The life of a picture, by one walk backwards over the coding order.
-fn life(order: &[CodedPicture], picture: u8) -> Life
-    requires most { length order.now ≤ 64 }
-    ensures { result ≡ life_in (map coded_as order.now) picture }
+// The lives by what is coded from a place on, from those by what is coded behind it.
+fn step_back(lives: &mut Vec<Life>, coded: &CodedPicture, place: u8)
+    requires few { length lives.old.items ≤ 64 }
+    requires place { place < 64 }
+    ensures count { length lives.new.items ≡ length lives.old.items }
+    ensures each { (d : LifeSeen) (picture : ℕ) → picture < length lives.old.items →
+        slice_index_or lives.new.items picture d ≡
+        life_before (slice_index_or lives.old.items picture d) (coded_as coded.now) place picture }
 {
-    let mut life = Life {
-        place: order.len() as u8,
-        until: 0,
-    };
-    for place in (0..order.len() as u8).rev() {
-        life = life.before(&order[usize::from(place)], place, picture);
+    for picture in 0..lives.len() as u8 {
+        let at = usize::from(picture);
+        lives[at] = lives[at].before(coded, place, picture);
     }
-    life
 }
 
 // What is kept of one picture.

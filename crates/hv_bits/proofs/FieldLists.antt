@@ -1,8 +1,8 @@
 -- Lists of fields, put one after another.
 use Rattle.std.proofs.Common.{◌≡◌, ℕ, ◌+◌, ◌<◌, List, [], ◌∷◌, ◌++◌, length, take, map, get_or, refl, ap, sym, ◌∙◌, add-one, append-nil}
 use Rattle.std.proofs.Math.Seq.{take-suc}
-use Rattle.hv_model.specs.Fields.{Field, field_bits, bits_of_fields}
-use Rattle.hv_model.specs.PayloadLaws.{JoinedFieldsHaveJoinedBits}
+use Rattle.hv_stream_model.specs.Fields.{Field, field_bits, bits_of_fields}
+use Rattle.hv_stream_model.specs.FieldLaws.{JoinedFieldsHaveJoinedBits}
 use Rattle.hv_bits.specs.Writing.{Written, Appends}
 use Rattle.hv_bits.specs.FieldTables.{TablesJoin}
 use Rattle.hv_bits.proofs.WritingLaws.{Appends-then, Appends-same}

@@ -2,11 +2,11 @@
 use Rattle.std.proofs.Common.{◌≡◌, ℕ, ◌+◌, ◌-◌, ◌*◌, ◌/◌, ◌%◌, ◌^◌, ◌<◌, ◌≤◌, zero, suc, List, [], ◌∷◌, ◌++◌, length, bit_and, bit_or, sym, ap, ap₂, ◌∙◌, arith, append_assoc, append-nil, length-append}
 use Rattle.std.specs.Int.{w32, to_be_bytes}
 use Rattle.std.proofs.lemmas.Nat.{shl_whole, one_shl, or_shifted, and_mask}
-use Rattle.hv_model.specs.Bits.{digits, bits_of}
-use Rattle.hv_model.specs.Fields.{padding_of}
-use Rattle.hv_model.proofs.DigitLaws.{length-digits, digits-add}
-use Rattle.hv_model.proofs.BitLaws.{digits-mod, digits-pair, bits_of-append, length-bits_of, bits_of-bytes_high_first}
-use Rattle.hv_model.proofs.FieldLaws.{padding_of-eq}
+use Rattle.hv_stream_model.specs.Bits.{digits, bits_of}
+use Rattle.hv_stream_model.specs.Fields.{padding_of}
+use Rattle.hv_stream_model.proofs.DigitLaws.{length-digits, digits-add}
+use Rattle.hv_stream_model.proofs.BitLaws.{digits-mod, digits-pair, bits_of-append, length-bits_of, bits_of-bytes_high_first}
+use Rattle.hv_stream_model.proofs.FieldLaws.{padding_of-eq}
 
 -- the last bits with the new ones behind them, and the lowest 32 of any number
 abbrev pub joined : ℕ → ℕ → ℕ → ℕ

@@ -6,12 +6,12 @@ use Rattle.std.specs.Prelude.{replicate, nat_eq}
 use Rattle.std.proofs.lemmas.Nat.{shl_whole, one_shl, or_shifted, and_mask, pow_pos, pow-add}
 use Rattle.std.proofs.lemmas.List.{take_at, drop_at, drop-drop, take-append-le, drop-append-le, length-take-le, take_all, take_more}
 use Rattle.std.proofs.lemmas.Bool.{cond_both, cases_lt, ne_eqb}
-use Rattle.hv_model.specs.Bits.{digits, number_of, bits_of}
-use Rattle.hv_model.specs.Fields.{leading_zeros}
-use Rattle.hv_model.specs.BitLaws.{AreBits}
-use Rattle.hv_model.proofs.DigitLaws.{length-digits, digits-add}
-use Rattle.hv_model.proofs.BitLaws.{number_of-digits, number_of-append, number_of_lt, digits-number_of, bits_of-append, length-bits_of, AreBits-bits_of, AreBits-drop, AreBits-take, drop-bits_of}
-use Rattle.hv_model.proofs.FieldLaws.{digits-zero, top_digit, leading_zeros-code}
+use Rattle.hv_stream_model.specs.Bits.{digits, number_of, bits_of}
+use Rattle.hv_stream_model.specs.Fields.{leading_zeros}
+use Rattle.hv_stream_model.specs.BitLaws.{AreBits}
+use Rattle.hv_stream_model.proofs.DigitLaws.{length-digits, digits-add}
+use Rattle.hv_stream_model.proofs.BitLaws.{number_of-digits, number_of-append, number_of_lt, digits-number_of, bits_of-append, length-bits_of, AreBits-bits_of, AreBits-drop, AreBits-take, drop-bits_of}
+use Rattle.hv_stream_model.proofs.FieldLaws.{digits-zero, top_digit, leading_zeros-code}
 
 -- bits that are passed
 pub drop_passed : (bytes : List ℕ) (s c : ℕ) →

@@ -1,6 +1,6 @@
 -- The fields of the code's tables, as the definitions see them.
 use Rattle.std.specs.Prelude.{◌-◌, ◌^◌, Bool, nat_lt, nat_le, ◌&&◌, negsuc, int_lt, List, ◌++◌}
-use Rattle.hv_model.specs.Fields.{Field as HeaderField, u, ue, se, bits_of_fields}
+use Rattle.hv_stream_model.specs.Fields.{Field as HeaderField, u, ue, se, bits_of_fields}
 use Rattle.hv_bits.specs.declared.fields.Field.{Field}
 use Rattle.hv_bits.specs.declared.fields.Field.TheVariants.{U, Ue, Se}
 use Rattle.hv_bits.specs.Writing.{Written, Appends}

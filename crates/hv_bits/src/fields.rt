@@ -1,12 +1,12 @@
 // Fields of headers, written one after another.
 ghost use Rattle.std.specs.Prelude.{◌≡◌, true, map};
 ghost use Rattle.std.specs.List.{list_all};
-ghost use Rattle.hv_model.specs.Fields.{bits_of_fields, field_bits};
+ghost use Rattle.hv_stream_model.specs.Fields.{bits_of_fields, field_bits};
 ghost use Rattle.hv_bits.specs.Writing.{Appends};
 ghost use Rattle.hv_bits.specs.FieldTables.{field_of, is_codable, TablesJoin};
 
 use crate::writer::BitWriter;
-use hv_model::joined_fields_have_joined_bits;
+use hv_stream_model::joined_fields_have_joined_bits;
 
 /// A field of a header with its value, by its descriptor (7.2): `u(n)` of n bits, `ue(v)` or
 /// `se(v)`.

@@ -1,7 +1,7 @@
 // A reader of bits.
 ghost use Rattle.std.specs.Prelude.{◌≡◌, ◌≢◌, ◌+◌, ◌*◌, ◌^◌, ◌<◌, ◌≤◌, ◌↔◌, length, min, take, drop, Some, IfOk, IsTrue, OnErr};
-ghost use Rattle.hv_model.specs.Bits.{number_of, bits_of};
-ghost use Rattle.hv_model.specs.Fields.{U, Ue, leading_zeros, read_field};
+ghost use Rattle.hv_stream_model.specs.Bits.{number_of, bits_of};
+ghost use Rattle.hv_stream_model.specs.Fields.{U, Ue, leading_zeros, read_field};
 
 use std::marker::Model;
 
@@ -25,7 +25,7 @@ pub struct BitReader<'a> {
 
 impl<'a> Model for BitReader<'a> {
     ghost use Rattle.std.specs.Prelude.{ℕ, ◌*◌, ◌<◌, ◌≤◌, List, length, drop};
-    ghost use Rattle.hv_model.specs.Bits.{bits_of};
+    ghost use Rattle.hv_stream_model.specs.Bits.{bits_of};
 
     ghost Value = { List ℕ };
 

@@ -1,7 +1,7 @@
 // What no clause says: that bytes come out where there is memory, and the bytes of worked fields
 // and units, which come from outside.
 ghost use Rattle.std.specs.Prelude.{◌≢◌, IfOk};
-ghost use Rattle.hv_model.specs.Units.{last_of};
+ghost use Rattle.hv_stream_model.specs.Units.{last_of};
 
 use crate::{BitReader, BitWriter, BitsError, strip_nal, write_nal};
 use hv_types::NoMemory;

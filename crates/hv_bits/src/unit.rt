@@ -1,6 +1,6 @@
 // NAL units, and emulation prevention.
 ghost use Rattle.std.specs.Prelude.{◌≡◌, ◌≢◌, ◌+◌, ◌<◌, ◌≤◌, ◌++◌, length, drop, slice_index, IfOk, OnOk, IsTrue};
-ghost use Rattle.hv_model.specs.Units.{unit_bytes, last_of, escape, strip};
+ghost use Rattle.hv_stream_model.specs.Units.{unit_bytes, last_of, escape, strip};
 
 use hv_types::NoMemory;
 use std::alloc::{AllocError, Global};

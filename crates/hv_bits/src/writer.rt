@@ -1,7 +1,7 @@
 // A writer of bits.
 ghost use Rattle.std.specs.Prelude.{◌≡◌, ◌+◌, ◌-◌, ◌%◌, ◌^◌, ◌<◌, ◌≤◌, false, [], length, OnOk, IfOk, negsuc, ◌<ℤ◌};
-ghost use Rattle.hv_model.specs.Bits.{digits, bits_of, bytes_of};
-ghost use Rattle.hv_model.specs.Fields.{exp_golomb, code_num, padding_of};
+ghost use Rattle.hv_stream_model.specs.Bits.{digits, bits_of, bytes_of};
+ghost use Rattle.hv_stream_model.specs.Fields.{exp_golomb, code_num, padding_of};
 ghost use Rattle.hv_bits.specs.Writing.{Appends};
 
 use hv_types::NoMemory;
@@ -22,8 +22,8 @@ pub struct BitWriter {
 
 impl Model for BitWriter {
     ghost use Rattle.std.specs.Prelude.{◌<◌, ◌++◌};
-    ghost use Rattle.hv_model.specs.Bits.{digits, bits_of};
-    ghost use Rattle.hv_model.specs.BitLaws.{AreBytes};
+    ghost use Rattle.hv_stream_model.specs.Bits.{digits, bits_of};
+    ghost use Rattle.hv_stream_model.specs.BitLaws.{AreBytes};
     ghost use Rattle.hv_bits.specs.Writing.{Written};
 
     ghost Value = { Written };

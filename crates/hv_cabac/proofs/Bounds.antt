@@ -5,8 +5,8 @@ use Rattle.std.proofs.lemmas.Nat.{leading_top}
 use Rattle.std.proofs.lemmas.Bool.{cases_order}
 use Rattle.std.specs.Int.Count.{count_leading_zeros}
 use Rattle.std.specs.Prelude.{◌⊎◌}
-use Rattle.hv_model.specs.CodeWord.{shift_of, odd_from}
-use Rattle.hv_model.proofs.Intervals.{shift_fits}
+use Rattle.hv_entropy_model.specs.CodeWord.{shift_of, odd_from}
+use Rattle.hv_entropy_model.proofs.Intervals.{shift_fits}
 use Rattle.hv_cabac.specs.Bytes.{total, places_of, HasRoom}
 
 -- ---- renormalization by the leading zeros

@@ -6,10 +6,11 @@ use mathlib.Core.Bool.{beq}
 use Rattle.hv_types.specs.declared.bins.SliceKind.{SliceKind}
 use Rattle.hv_types.specs.declared.bins.Ctx.{Ctx}
 use Rattle.hv_types.specs.Bins.{Question, Context, Terminate, Bin}
-use Rattle.hv_model.specs.Contexts.{ContextVariable, place_of, variable_at, with_variable, lps_width, next_variable, same, first_variables}
-use Rattle.hv_model.specs.CodeWord.{Cut, cut, cut_at, next_variables, is_last, Interval, first_interval, cut_to, advance, reach, IsSound, IsEnded}
-use Rattle.hv_model.specs.IntervalLaws.{IsWithin}
-use Rattle.hv_model.proofs.Intervals.{cut_within}
+use Rattle.hv_entropy_model.specs.Contexts.{ContextVariable, place_of, variable_at, with_variable, lps_width, next_variable, first_variables}
+use Rattle.hv_lemmas.specs.Booleans.{same}
+use Rattle.hv_entropy_model.specs.CodeWord.{Cut, cut, cut_at, next_variables, is_last, Interval, first_interval, cut_to, advance, reach, IsSound, IsEnded}
+use Rattle.hv_entropy_model.specs.IntervalLaws.{IsWithin}
+use Rattle.hv_entropy_model.proofs.Intervals.{cut_within}
 use Rattle.hv_cabac.specs.Registers.{Holds, Kept}
 use Rattle.hv_cabac.specs.Encoding.{Stands, StandsFor}
 use Rattle.hv_cabac.specs.declared.register.Register.{Register}

@@ -11,7 +11,7 @@ use mir.Val.{to_z, of_z}
 use mir.Syntax.{w32}
 use Rattle.hv_types.specs.declared.bins.SliceKind.{SliceKind}
 use Rattle.hv_types.specs.declared.bins.SliceKind.TheVariants.{I, P}
-use Rattle.hv_model.specs.Contexts.{ContextVariable, first_variable, first_variables}
+use Rattle.hv_entropy_model.specs.Contexts.{ContextVariable, first_variable, first_variables}
 use Rattle.hv_cabac.specs.Variables.{variable_of, values_of_kind}
 
 -- ---- signed numbers

@@ -2,7 +2,7 @@
 use Rattle.std.proofs.Common.{◌≡◌, ℕ, zero, suc, ◌+◌, ◌*◌, ◌/◌, ◌%◌, ◌<◌, ◌≤◌, Bool, true, false, cond, ◌&&◌, eqb, get_or, refl, ap, ◌∙◌, arith, eqb-true, inl, inr}
 use Rattle.std.proofs.lemmas.Bool.{and_parts, cases_lt}
 use Rattle.std.specs.Prelude.{◌⊎◌}
-use Rattle.hv_model.specs.Contexts.{ContextVariable, next_variable}
+use Rattle.hv_entropy_model.specs.Contexts.{ContextVariable, next_variable}
 use Rattle.hv_cabac.specs.Variables.{variable_of}
 use Rattle.hv_cabac.proofs.NextStates.{next_states}
 

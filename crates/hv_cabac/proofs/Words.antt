@@ -3,9 +3,9 @@ use Rattle.std.proofs.Common.{◌≡◌, ℕ, zero, suc, ◌+◌, ◌-◌, ◌*�
 use Rattle.std.proofs.Math.Nat.{div-eq_of_lt, mul-add-div_right}
 use Rattle.std.proofs.lemmas.Nat.{shl-shr, shr_high, mod-pow-add}
 use Rattle.std.proofs.lemmas.List.{drop-append-le, length-replicate, replicate-append-replicate}
-use Rattle.hv_model.specs.Bits.{digits, number_of, bits_of, first_bytes, bytes_of}
-use Rattle.hv_model.specs.CodeWord.{Interval, odd_from, word_at}
-use Rattle.hv_model.proofs.DigitLaws.{digits-add, length-digits}
+use Rattle.hv_stream_model.specs.Bits.{digits, number_of, bits_of, first_bytes, bytes_of}
+use Rattle.hv_entropy_model.specs.CodeWord.{Interval, odd_from, word_at}
+use Rattle.hv_stream_model.proofs.DigitLaws.{digits-add, length-digits}
 use Rattle.hv_cabac.specs.Bytes.{number, total, places_of, HasRoom}
 use Rattle.hv_cabac.specs.Registers.{Holds, total_of}
 use Rattle.hv_cabac.specs.declared.register.Register.{Register}

@@ -2,8 +2,8 @@
 use Rattle.std.specs.Prelude.{◌≡◌, ℕ, false, List}
 use Rattle.hv_types.specs.declared.bins.SliceKind.{SliceKind}
 use Rattle.hv_types.specs.Bins.{Bin}
-use Rattle.hv_model.specs.Contexts.{ContextVariable, first_variables}
-use Rattle.hv_model.specs.CodeWord.{Interval, first_interval, reach, IsSound}
+use Rattle.hv_entropy_model.specs.Contexts.{ContextVariable, first_variables}
+use Rattle.hv_entropy_model.specs.CodeWord.{Interval, first_interval, reach, IsSound}
 use Rattle.hv_cabac.specs.Registers.{Holds}
 use Rattle.hv_cabac.specs.VariableStates.{variables_of}
 use Rattle.hv_cabac.specs.declared.register.Register.{Register}

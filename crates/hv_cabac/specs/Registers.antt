@@ -1,6 +1,6 @@
 -- The interval that a register holds, and what a step makes of it.
 use Rattle.std.specs.Prelude.{◌≡◌, ℕ, ◌+◌, ◌*◌, ◌^◌, ◌≤◌, false}
-use Rattle.hv_model.specs.CodeWord.{Cut, Interval}
+use Rattle.hv_entropy_model.specs.CodeWord.{Cut, Interval}
 use Rattle.hv_cabac.specs.Bytes.{total, places_of, HasRoom}
 use Rattle.hv_cabac.specs.declared.register.Register.{Register}
 

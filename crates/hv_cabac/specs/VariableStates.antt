@@ -1,6 +1,6 @@
 -- The context variables that their states stand for.
 use Rattle.std.specs.Prelude.{List, map}
-use Rattle.hv_model.specs.Contexts.{ContextVariable}
+use Rattle.hv_entropy_model.specs.Contexts.{ContextVariable}
 use Rattle.hv_cabac.specs.Variables.{variable_of}
 use Rattle.hv_cabac.specs.declared.variables.Variables.{Variables}
 

@@ -1,8 +1,8 @@
 -- Context variables as states of one number each.
 use Rattle.std.specs.Prelude.{ℕ, ◌*◌, ◌/◌, ◌%◌, nat_eq, List, flat_map, ℤ, pos, ◌-ℤ◌}
 use Rattle.hv_types.specs.declared.bins.SliceKind.{SliceKind}
-use Rattle.hv_model.specs.ContextTables.{tables, values_of}
-use Rattle.hv_model.specs.Contexts.{ContextVariable}
+use Rattle.hv_tables.specs.ContextTables.{tables, values_of}
+use Rattle.hv_entropy_model.specs.Contexts.{ContextVariable}
 
 -- a state is 2 * pStateIdx + valMps
 abbrev pub variable_of : ℕ → ContextVariable

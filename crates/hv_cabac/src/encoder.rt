@@ -2,8 +2,8 @@
 ghost use Rattle.std.specs.Prelude.{◌≡◌, ℕ, List, [], IfOk};
 ghost use Rattle.hv_types.specs.declared.bins.SliceKind.{SliceKind as Kind};
 ghost use Rattle.hv_types.specs.Bins.{Bin};
-ghost use Rattle.hv_model.specs.Bits.{bytes_of};
-ghost use Rattle.hv_model.specs.CodeWord.{IsEnded, word};
+ghost use Rattle.hv_stream_model.specs.Bits.{bytes_of};
+ghost use Rattle.hv_entropy_model.specs.CodeWord.{IsEnded, word};
 
 use crate::register::Register;
 use crate::tables::{lps, next_state, place};

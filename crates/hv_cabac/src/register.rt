@@ -1,8 +1,8 @@
 // The interval of the arithmetic encoder, in a register and the bytes that have left it.
 ghost use Rattle.std.specs.Prelude.{◌≡◌, ◌+◌, ◌-◌, ◌*◌, ◌/◌, ◌%◌, ◌^◌, ◌<◌, ◌≤◌, [], List, cond, length, true, false, OnOk, IfOk, ℕ, slice_index_or};
-ghost use Rattle.hv_model.specs.Bits.{bytes_of};
-ghost use Rattle.hv_model.specs.Contexts.{ContextVariable};
-ghost use Rattle.hv_model.specs.CodeWord.{Interval, first_interval, shift_of, part, cut, cut_at, odd_from, word_at};
+ghost use Rattle.hv_stream_model.specs.Bits.{bytes_of};
+ghost use Rattle.hv_entropy_model.specs.Contexts.{ContextVariable};
+ghost use Rattle.hv_entropy_model.specs.CodeWord.{Interval, first_interval, shift_of, part, cut, cut_at, odd_from, word_at};
 ghost use Rattle.hv_types.specs.Bins.{Bypass};
 ghost use Rattle.hv_cabac.specs.Bytes.{number, total, HasRoom};
 

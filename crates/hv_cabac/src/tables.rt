@@ -1,7 +1,7 @@
 // The tables of the arithmetic coder, as the standard prints them and as the coder reads them.
 ghost use Rattle.std.specs.Prelude.{◌≡◌, ◌<◌, ◌≤◌, length};
-ghost use Rattle.hv_model.specs.Contexts.{place_of, lps_width, next_variable};
-ghost use Rattle.hv_model.specs.ContextTables.{offset_of};
+ghost use Rattle.hv_entropy_model.specs.Contexts.{place_of, lps_width, next_variable};
+ghost use Rattle.hv_tables.specs.ContextTables.{offset_of};
 ghost use Rattle.hv_cabac.specs.Variables.{variable_of, values_of_kind};
 
 use hv_types::{Ctx, CtxTable, SliceKind};
@@ -260,7 +260,7 @@ pub fn place(context: Ctx) -> usize
 
 /// The width of the less probable part of a range (9.3.4.3.2).
 #[inline(always)]
-#[tactic(auto, unfolding(hv_model::specs::Contexts::lps_width))]
+#[tactic(auto, unfolding(hv_entropy_model::specs::Contexts::lps_width))]
 pub fn lps(state: u8, range: u32) -> u32
     requires wide { 256 ≤ range }
     requires narrow { range ≤ 510 }

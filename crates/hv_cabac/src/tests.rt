@@ -4,8 +4,8 @@ ghost use Rattle.std.specs.Prelude.{◌≡◌, [], ◌∷◌, true, false, IfOk}
 ghost use Rattle.hv_types.specs.Bins.{Puts, context_bin, bypass_bin, terminate_bin};
 ghost use Rattle.hv_types.specs.declared.bins.CtxTable.TheVariants.{CodedSub};
 ghost use Rattle.hv_types.specs.declared.bins.SliceKind.TheVariants.{P};
-ghost use Rattle.hv_model.specs.Bits.{bytes_of};
-ghost use Rattle.hv_model.specs.CodeWord.{word};
+ghost use Rattle.hv_stream_model.specs.Bits.{bytes_of};
+ghost use Rattle.hv_entropy_model.specs.CodeWord.{word};
 
 use crate::{BinSink, Counter, Ctx, CtxTable, Encoder, SliceKind};
 use hv_types::NoMemory;

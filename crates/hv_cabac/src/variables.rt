@@ -2,8 +2,8 @@
 ghost use Rattle.std.specs.Prelude.{◌≡◌, ◌≤◌, slice_index_or, slice_set, pos, ◌+ℤ◌, ◌*ℤ◌};
 ghost use Rattle.std.specs.Int.{int_shr};
 ghost use Rattle.std.specs.Int.RustNames.{unsigned_abs};
-ghost use Rattle.hv_model.specs.Contexts.{first_variable, first_variables, preCtxState, no_variable};
-ghost use Rattle.hv_model.specs.Clipping.{clip3};
+ghost use Rattle.hv_entropy_model.specs.Contexts.{first_variable, first_variables, preCtxState, no_variable};
+ghost use Rattle.hv_lemmas.specs.Clipping.{clip3};
 ghost use Rattle.hv_cabac.specs.Variables.{variable_of, slope_of, offset_of};
 
 use crate::tables::{CONTEXTS, init_values};

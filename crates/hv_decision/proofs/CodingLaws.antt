@@ -2,7 +2,7 @@
 use Rattle.std.proofs.Common.{◌≡◌, ℕ, zero, suc, ◌+◌, ◌-◌, ◌*◌, ◌/◌, ◌^◌, ◌<◌, ◌≤◌, ◌∙◌, ◌%◌, sym, ap, subst, true, false, refl, List, [], ◌∷◌, ◌++◌, arith, cond, nat_lt}
 use Rattle.std.proofs.lemmas.List.{append_assoc, append-nil}
 use Rattle.std.proofs.lemmas.Bool.Decides.{nat_tests}
-use Rattle.hv_model.specs.Structure.{Coded, coded, halves, blocks, multiples, anchors}
+use Rattle.hv_group_model.specs.Structure.{Coded, coded, halves, blocks, multiples, anchors}
 
 not_below : (a b : ℕ) → b ≤ a → nat_lt a b ≡ false
 not_below a b e = grind (arith, nat_tests, e)

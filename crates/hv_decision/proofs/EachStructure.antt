@@ -3,7 +3,7 @@ use Rattle.std.proofs.Common.{◌≡◌, ℕ, ◌+◌, ◌<◌, Bool, true, cond
 use Rattle.std.specs.Prelude.{◌⊎◌}
 use Rattle.std.proofs.lemmas.Bool.{and_parts, cases_lt, ltb-true}
 use Rattle.std.specs.List.{list_all}
-use Rattle.hv_model.specs.Structure.{Coded, coded, coding, place_in, falling, rising}
+use Rattle.hv_group_model.specs.Structure.{Coded, coded, coding, place_in, falling, rising}
 use Rattle.hv_decision.specs.declared.row.Life.{Life}
 use Rattle.hv_decision.specs.Sets.{life_in, is_kept_at}
 use Rattle.hv_decision.proofs.Lists.{all_at, all-map, below_all, rising_at, length-rising}

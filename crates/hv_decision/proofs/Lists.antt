@@ -3,7 +3,7 @@ use Rattle.std.proofs.Common.{◌≡◌, ℕ, zero, suc, ◌+◌, ◌<◌, ◌�
 use Rattle.std.specs.Prelude.{◌⊎◌}
 use Rattle.std.specs.List.{list_all}
 use Rattle.std.proofs.lemmas.Bool.{and_parts, cases_lt}
-use Rattle.hv_model.specs.Structure.{falling, rising}
+use Rattle.hv_group_model.specs.Structure.{falling, rising}
 
 -- what a test found of all elements holds at each place
 pub all_at : {A : Type 0} (p : A → Bool) (xs : List A) (i : ℕ) (d : A) →

@@ -2,7 +2,7 @@
 use Rattle.std.proofs.Common.{◌≡◌, ℕ, zero, suc, ◌+◌, ◌≤◌, ◌∙◌, sym, ap, ap₂, Bool, true, false, refl, List, [], ◌∷◌, length, arith, cond, nat_eq, nat_lt, ◌&&◌, ◌||◌, take, drop}
 use Rattle.std.proofs.lemmas.Bool.Decides.{nat_tests}
 use Rattle.std.specs.List.{list_any}
-use Rattle.hv_model.specs.Structure.{Coded, place_in, is_among, is_referred, is_kept}
+use Rattle.hv_group_model.specs.Structure.{Coded, place_in, is_among, is_referred, is_kept}
 use Rattle.hv_decision.specs.declared.row.Life.{Life}
 use Rattle.hv_decision.specs.Sets.{until_in, life_in, life_before, is_kept_at}
 

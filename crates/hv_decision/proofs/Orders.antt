@@ -2,7 +2,7 @@
 use Rattle.std.proofs.Common.{[], ◌≡◌, ℕ, ◌≤◌, Bool, true, nat_eq, nat_lt, ◌&&◌, List, slice_index_or, refl, eqb-true}
 use Rattle.std.proofs.lemmas.Bool.{and_parts, cases_lt, ltb-true}
 use Rattle.std.specs.List.{list_all}
-use Rattle.hv_model.specs.Structure.{Coded, coded, coding, place_in, falling, rising}
+use Rattle.hv_group_model.specs.Structure.{Coded, coded, coding, place_in, falling, rising}
 use Rattle.hv_decision.specs.Orders.{IsOrder, AreOrders}
 use Rattle.hv_decision.proofs.Lists.{all_at, below_all}
 use Rattle.hv_decision.proofs.EachStructure.{each_count, each_levels, place_below, picture-lt}

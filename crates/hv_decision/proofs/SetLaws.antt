@@ -3,7 +3,7 @@ use Rattle.std.proofs.Common.{◌≡◌, ℕ, zero, suc, ◌+◌, ◌-◌, ◌<�
 use Rattle.std.specs.List.{list_any}
 use Rattle.std.specs.Int.{abs_diff}
 use Rattle.std.proofs.lemmas.List.{append_assoc, map-append, drop_more, get_or-map, length-map, length-append}
-use Rattle.hv_model.specs.Structure.{Coded, coded, Kept, kept, kept_among, is_kept, falling, rising, set_in, set_size, place_in, ReferenceSet}
+use Rattle.hv_group_model.specs.Structure.{Coded, coded, Kept, kept, kept_among, is_kept, falling, rising, set_in, set_size, place_in, ReferenceSet}
 use Rattle.hv_decision.specs.declared.coded.CodedPicture.{CodedPicture}
 use Rattle.hv_decision.specs.declared.row.Life.{Life}
 use Rattle.hv_decision.specs.declared.row.SetEntry.{SetEntry}

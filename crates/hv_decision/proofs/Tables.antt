@@ -1,7 +1,7 @@
 -- What the table of a structure says.
 use Rattle.std.proofs.Common.{◌≡◌, ℕ, ◌+◌, ◌<◌, ◌≤◌, ◌∙◌, sym, ap, subst, List, [], length, map, slice_index_or, arith}
 use Rattle.std.proofs.lemmas.List.{get_or-map, length-map}
-use Rattle.hv_model.specs.Structure.{Coded, coded, coding, place_in, rising, picture_at, reference_set}
+use Rattle.hv_group_model.specs.Structure.{Coded, coded, coding, place_in, rising, picture_at, reference_set}
 use Rattle.hv_decision.specs.declared.coded.CodedPicture.{CodedPicture}
 use Rattle.hv_decision.specs.declared.row.Row.{Row}
 use Rattle.hv_decision.specs.Coding.{coded_as}

@@ -1,6 +1,6 @@
 -- How the code holds what is coded for a picture.
 use Rattle.std.specs.Prelude.{ℕ, List, [], ◌∷◌}
-use Rattle.hv_model.specs.Structure.{Coded, coded}
+use Rattle.hv_group_model.specs.Structure.{Coded, coded}
 use Rattle.hv_decision.specs.declared.coded.References.{References}
 use Rattle.hv_decision.specs.declared.coded.References.TheVariants.{Nothing, One, Two}
 use Rattle.hv_decision.specs.declared.coded.CodedPicture.{CodedPicture}

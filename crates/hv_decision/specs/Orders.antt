@@ -1,6 +1,6 @@
 -- What holds of the coding order of every group.
 use Rattle.std.specs.Prelude.{◌≡◌, ◌<◌, ◌≤◌, ℕ, All}
-use Rattle.hv_model.specs.Structure.{coding, place_in, picture_at, coded_of}
+use Rattle.hv_group_model.specs.Structure.{coding, place_in, picture_at, coded_of}
 
 -- each picture has one place, at which it stands, and refers to pictures at places before that
 pub record IsOrder (count levels : ℕ) : Type 0 where

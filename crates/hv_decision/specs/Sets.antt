@@ -2,7 +2,7 @@
 use Rattle.std.specs.Prelude.{◌≡◌, ℕ, suc, ◌+◌, pos, neg_ℤ, Bool, cond, nat_lt, nat_eq, ◌&&◌, List, [], ◌∷◌, ◌++◌, map, length, slice_index_or}
 use Rattle.std.specs.Int.{abs_diff}
 use Rattle.std.specs.List.{list_any}
-use Rattle.hv_model.specs.Structure.{rising, Coded, coded, Kept, ReferenceSet, place_in, set_in, coding}
+use Rattle.hv_group_model.specs.Structure.{rising, Coded, coded, Kept, ReferenceSet, place_in, set_in, coding}
 use Rattle.hv_decision.specs.declared.row.SetEntry.{SetEntry}
 use Rattle.hv_decision.specs.declared.row.Life.{Life}
 use Rattle.hv_decision.specs.declared.row.Row.{Row}

@@ -1,6 +1,6 @@
 -- The structure of a group, as contracts see it.
 use Rattle.std.specs.Prelude.{◌≡◌, ◌≤◌, ℕ, List, map}
-use Rattle.hv_model.specs.Structure.{coding, rising}
+use Rattle.hv_group_model.specs.Structure.{coding, rising}
 use Rattle.hv_decision.specs.declared.row.Row.{Row}
 use Rattle.hv_decision.specs.Sets.{of_picture, row_as}
 

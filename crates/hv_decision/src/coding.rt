@@ -1,6 +1,6 @@
 // The pictures of a group in coding order: blocks from anchor to anchor, each halved.
 ghost use Rattle.std.specs.Prelude.{◌≡◌, ◌+◌, ◌<◌, ◌≤◌, ◌∷◌, [], ◌++◌, map, IfOk, OnOk};
-ghost use Rattle.hv_model.specs.Structure.{coded, coding, halves, blocks, anchors};
+ghost use Rattle.hv_group_model.specs.Structure.{coded, coding, halves, blocks, anchors};
 ghost use Rattle.hv_decision.specs.Coding.{coded_as};
 
 use crate::coded::{CodedPicture, References};

@@ -1,6 +1,6 @@
 // Reference picture sets (8.3.2).
 ghost use Rattle.std.specs.Prelude.{◌≡◌, ◌+◌, ◌<◌, ◌≤◌, map, length, IfOk, OnOk, ℕ, slice_index_or, cond, ◌++◌, ◌∷◌, []};
-ghost use Rattle.hv_model.specs.Structure.{rising, place_in, set_in};
+ghost use Rattle.hv_group_model.specs.Structure.{rising, place_in, set_in};
 ghost use Rattle.hv_decision.specs.Coding.{coded_as};
 ghost use Rattle.hv_decision.specs.declared.row.Life.{Life as LifeSeen};
 ghost use Rattle.hv_decision.specs.Sets.{AreLives, life_before, row_in, row_as, entry_before, entry_after, kept_by, is_kept_at};

@@ -32,7 +32,7 @@ impl Model for Structure {
 }
 
 impl Structure {
-    ghost use Rattle.hv_model.specs.Structure.{picture_at, coded_of, qp_at, reference_set, set_size};
+    ghost use Rattle.hv_group_model.specs.Structure.{picture_at, coded_of, qp_at, reference_set, set_size};
     ghost use Rattle.hv_decision.specs.Sets.{set_entries, of_picture, row_as};
 
     /// The structure of a group of `count` pictures, 1 to 64, with `levels` temporal levels above

@@ -3,7 +3,7 @@ use Rattle.std.proofs.Common.{◌≡◌, ℕ, ◌+◌, ◌*◌, ◌^◌, ◌<◌
 use Rattle.std.specs.Prelude.{◌⊎◌, ℤ, pos, ◌+ℤ◌, ◌-ℤ◌}
 use Rattle.std.proofs.lemmas.Int.{ints}
 use Rattle.hv_tables.specs.Angles.{intraPredAngle}
-use Rattle.hv_model.specs.IntraPrediction.{ref, interpolated}
+use Rattle.hv_sample_model.specs.IntraPrediction.{ref, interpolated}
 use Rattle.hv_intra.specs.References.{shift, part, first, blended, sample_between, HoldsReference}
 use Rattle.hv_intra.proofs.Facts.{row_facts, RowFacts}
 

@@ -1,6 +1,6 @@
 -- Predicted blocks.
 use Rattle.std.proofs.Common.{◌≡◌, ℕ, ◌^◌, ◌≤◌, Bool, List, length, refl, ◌∙◌}
-use Rattle.hv_model.specs.IntraPrediction.{filtered, by_mode, predicted}
+use Rattle.hv_sample_model.specs.IntraPrediction.{filtered, by_mode, predicted}
 use Rattle.hv_intra.specs.Blocks.{HasRows}
 use Rattle.hv_intra.proofs.Rows.{block_is}
 use Rattle.hv_intra.proofs.Sides.{square_of_side}

@@ -3,7 +3,7 @@ use Rattle.std.proofs.Common.{◌≡◌, ℕ, ◌+◌, ◌-◌, ◌*◌, ◌^◌
 use Rattle.std.specs.Prelude.{◌⊎◌, pos, negsuc, ◌-ℤ◌}
 use Rattle.std.proofs.lemmas.Bool.{cases_lt}
 use Rattle.std.proofs.lemmas.Int.{ints}
-use Rattle.hv_model.specs.IntraPrediction.{ref}
+use Rattle.hv_sample_model.specs.IntraPrediction.{ref}
 use Rattle.hv_intra.specs.References.{projected, projected_count, HoldsReference}
 
 -- ---- one more sample before the corner

@@ -3,7 +3,7 @@ use Rattle.std.proofs.Common.{◌≡◌, ℕ, zero, suc, ◌+◌, ◌-◌, ◌*�
 use Rattle.std.specs.Prelude.{◌⊎◌}
 use Rattle.std.proofs.lemmas.Bool.{cases_order}
 use Rattle.std.proofs.lemmas.List.{ext_get_or}
-use Rattle.hv_model.specs.IntraPrediction.{smoothed, smoothed_behind}
+use Rattle.hv_sample_model.specs.IntraPrediction.{smoothed, smoothed_behind}
 
 length-smoothed_behind : (before : ℕ) (line : List ℕ) → length (smoothed_behind before line) ≡ length line
 length-smoothed_behind before [] = refl

@@ -3,8 +3,8 @@ use Rattle.std.proofs.Common.{◌≡◌, ℕ, zero, suc, ◌+◌, ◌<◌, ◌�
 use Rattle.std.specs.Prelude.{pos, ◌+ℤ◌, ◌-ℤ◌}
 use Rattle.std.specs.Int.{int_shr}
 use Rattle.std.proofs.lemmas.Bool.{lt-ltb, ne_eqb}
-use Rattle.hv_model.specs.Clipping.{clip1}
-use Rattle.hv_model.specs.IntraPrediction.{angular, left, above}
+use Rattle.hv_lemmas.specs.Clipping.{clip1}
+use Rattle.hv_sample_model.specs.IntraPrediction.{angular, left, above}
 use Rattle.hv_intra.proofs.Interpolation.{straight}
 
 pub vertical_edge : (log2 y : ℕ) (line : List ℕ) → log2 < 5 →

@@ -1,6 +1,6 @@
 -- Sums over neighbours.
 use Rattle.std.proofs.Common.{◌≡◌, ℕ, ◌+◌, refl, add-one}
-use Rattle.hv_model.specs.Blocks.{total_of}
+use Rattle.hv_sample_model.specs.Blocks.{total_of}
 
 pub total_of_none : (f : ℕ → ℕ) → total_of 0 f ≡ 0
 unfolding total_of

@@ -4,7 +4,7 @@ use Rattle.std.specs.Prelude.{◌≡◌, ℕ, ◌+◌, ◌-◌, ◌*◌, ◌/◌
 use Rattle.std.specs.Int.{int_shr, int_rem_euclid}
 use Rattle.std.specs.Int.RustNames.{unsigned_abs}
 use Rattle.hv_tables.specs.Angles.{intraPredAngle, invAngle}
-use Rattle.hv_model.specs.IntraPrediction.{ref}
+use Rattle.hv_sample_model.specs.IntraPrediction.{ref}
 
 -- how far along a mode's line has come at a row, in whole samples
 unfoldable pub shift : ℕ → ℕ → ℤ

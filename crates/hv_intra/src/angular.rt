@@ -2,7 +2,7 @@
 ghost use Rattle.std.specs.Prelude.{◌≡◌, ◌+◌, ◌*◌, ◌^◌, ◌<◌, ◌≤◌, length, slice_index};
 ghost use Rattle.hv_intra.specs.Blocks.{IsRow, HasRows};
 ghost use Rattle.hv_intra.specs.References.{first, part, blended, sample_between};
-ghost use Rattle.hv_model.specs.IntraPrediction.{left, above, interpolated};
+ghost use Rattle.hv_sample_model.specs.IntraPrediction.{left, above, interpolated};
 
 use crate::neighbours::side;
 use crate::reference::{PLACES, fill_from_above, fill_from_left, first, part};

@@ -1,7 +1,7 @@
 // Intra_DC.
 ghost use Rattle.std.specs.Prelude.{◌≡◌, true, ◌+◌, ◌*◌, ◌/◌, ◌^◌, ◌<◌, ◌≤◌, length};
 ghost use Rattle.hv_intra.specs.Blocks.{IsRow, HasRows};
-ghost use Rattle.hv_model.specs.IntraPrediction.{dc, dcVal};
+ghost use Rattle.hv_sample_model.specs.IntraPrediction.{dc, dcVal};
 
 use crate::neighbours::{above, left, side};
 

@@ -1,6 +1,6 @@
 // The samples of a line by their sides.
 ghost use Rattle.std.specs.Prelude.{◌≡◌, ◌+◌, ◌*◌, ◌^◌, ◌≤◌, length};
-ghost use Rattle.hv_model.specs.IntraPrediction.{left, above};
+ghost use Rattle.hv_sample_model.specs.IntraPrediction.{left, above};
 
 /// The columns and rows of a block.
 #[inline(always)]

@@ -1,7 +1,7 @@
 // Intra_Planar.
 ghost use Rattle.std.specs.Prelude.{◌≡◌, ℕ, ◌+◌, ◌-◌, ◌*◌, ◌/◌, ◌^◌, ◌<◌, ◌≤◌, length};
 ghost use Rattle.hv_intra.specs.Blocks.{IsRow, HasRows};
-ghost use Rattle.hv_model.specs.IntraPrediction.{planar};
+ghost use Rattle.hv_sample_model.specs.IntraPrediction.{planar};
 
 use crate::neighbours::{above, left, side};
 

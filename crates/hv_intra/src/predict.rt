@@ -1,7 +1,7 @@
 // Prediction of a block.
 ghost use Rattle.std.specs.Prelude.{◌≡◌, ◌+◌, ◌*◌, ◌^◌, ◌≤◌, length};
 ghost use Rattle.hv_intra.specs.Blocks.{HasRows};
-ghost use Rattle.hv_model.specs.IntraPrediction.{angular, by_mode, predicted};
+ghost use Rattle.hv_sample_model.specs.IntraPrediction.{angular, by_mode, predicted};
 
 use crate::angular::{predict_from_above, predict_from_left};
 use crate::dc::predict_dc;

@@ -3,7 +3,7 @@ ghost use Rattle.std.specs.Prelude.{◌≡◌, ◌+◌, ◌*◌, ◌^◌, ◌<�
 ghost use Rattle.std.specs.Int.RustNames.{unsigned_abs};
 ghost use Rattle.hv_tables.specs.Angles.{intraPredAngle, invAngle};
 ghost use Rattle.hv_intra.specs.References.{shift, first, part, projected, projected_count, HoldsReference};
-ghost use Rattle.hv_model.specs.IntraPrediction.{left, above};
+ghost use Rattle.hv_sample_model.specs.IntraPrediction.{left, above};
 
 use crate::neighbours::{above, left, side};
 use hv_tables::{intra_pred_angle, inv_angle};

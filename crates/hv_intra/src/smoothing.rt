@@ -1,6 +1,6 @@
 // Filtering of the neighbours.
 ghost use Rattle.std.specs.Prelude.{◌≡◌, ◌+◌, ◌*◌, ◌/◌, ◌^◌, ◌≤◌, length};
-ghost use Rattle.hv_model.specs.IntraPrediction.{is_smoothed, smoothed, filtered};
+ghost use Rattle.hv_sample_model.specs.IntraPrediction.{is_smoothed, smoothed, filtered};
 
 /// Whether a mode predicts from filtered neighbours (8.4.4.2.3).
 #[inline(always)]

@@ -3,8 +3,8 @@ ghost use Rattle.std.specs.Prelude.{◌≡◌, true, ◌+◌, ◌*◌, ◌^◌, 
 ghost use Rattle.std.specs.Int.{int_shr};
 ghost use Rattle.std.specs.Int.RustNames.{unsigned_abs};
 ghost use Rattle.hv_intra.specs.Blocks.{IsRow, HasRows};
-ghost use Rattle.hv_model.specs.Clipping.{clip1};
-ghost use Rattle.hv_model.specs.IntraPrediction.{angular, left, above};
+ghost use Rattle.hv_lemmas.specs.Clipping.{clip1};
+ghost use Rattle.hv_sample_model.specs.IntraPrediction.{angular, left, above};
 
 use crate::neighbours::{above, left, side};
 

@@ -4,7 +4,8 @@ use Rattle.std.proofs.lemmas.List.{append-nil}
 use Rattle.std.specs.Prelude.{flat_map}
 use Rattle.hv_types.specs.declared.settings.Settings.{Settings}
 use Rattle.hv_types.specs.declared.picture.Picture.{Picture}
-use Rattle.hv_model.specs.Encoding.{parameter_sets, picture_unit}
+use Rattle.hv_stream_model.specs.Headers.{parameter_sets}
+use Rattle.hv_model.specs.Encoding.{picture_unit}
 use Rattle.hv_model.specs.EncodingLaws.{EncodingAppends, EncodingIgnoresSamples}
 
 units_then_unit : (cfg : Settings) (pictures : List Picture) (picture : Picture) →

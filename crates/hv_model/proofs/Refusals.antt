@@ -4,17 +4,17 @@ use Rattle.std.proofs.Common.{◌≡◌, ◌≢◌, ℕ, zero, suc, ◌+◌, ◌
 use Rattle.std.specs.Prelude.{nat_eq, replicate, Option, Some, None, option_and_then}
 use Rattle.std.specs.List.{list_all}
 use Rattle.std.proofs.lemmas.Bool.{and_parts, cases_eq, cases_lt}
-use Rattle.hv_model.specs.Bits.{first_bytes}
-use Rattle.hv_model.specs.Contexts.{lps_width, next_variable, first_variables}
-use Rattle.hv_model.specs.CodeWord.{shift_of}
-use Rattle.hv_model.specs.Fields.{log2_of}
-use Rattle.hv_model.specs.Bins.{sites}
-use Rattle.hv_model.specs.Units.{NalUnit, IsUnit, IsByteStream, end, more, strip, last_of, units_of}
+use Rattle.hv_stream_model.specs.Bits.{first_bytes}
+use Rattle.hv_entropy_model.specs.Contexts.{lps_width, next_variable, first_variables}
+use Rattle.hv_entropy_model.specs.CodeWord.{shift_of}
+use Rattle.hv_stream_model.specs.Fields.{log2_of}
+use Rattle.hv_syntax_model.specs.Bins.{sites}
+use Rattle.hv_stream_model.specs.Units.{NalUnit, IsUnit, IsByteStream, end, more, strip, last_of, units_of}
 use Rattle.hv_types.specs.Video.{crop}
 use Rattle.hv_model.specs.Reconstruction.{grey}
 use Rattle.hv_model.specs.Decoding.{decode_units, decode_of}
 use Rattle.hv_model.proofs.WorkedStreams.{eighty_bytes, eighty_bytes_decoded}
-use Rattle.hv_model.proofs.UnitLaws.{streams_read}
+use Rattle.hv_stream_model.proofs.UnitLaws.{streams_read}
 
 abbrev is_refused : {A : Type 0} → Option A → Bool
 is_refused None = true

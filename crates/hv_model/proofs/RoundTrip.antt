@@ -7,24 +7,25 @@ use Rattle.hv_types.specs.declared.settings.Settings.{Settings}
 use Rattle.hv_types.specs.declared.picture.Picture.{Picture}
 use Rattle.hv_types.specs.Configuration.{IsValid, padded_width, padded_height}
 use Rattle.hv_types.specs.Video.{crop}
-use Rattle.hv_model.specs.Bits.{bytes_of}
-use Rattle.hv_model.specs.Fields.{Field, bits_of_fields, aligned}
-use Rattle.hv_model.specs.Units.{NalUnit, IsUnit, unit_bytes}
-use Rattle.hv_model.specs.Headers.{Size, vps, sps, pps, read_vps, read_sps, read_pps, size_of}
-use Rattle.hv_model.specs.HeaderLaws.{IsAllowed}
-use Rattle.hv_model.specs.UnitLaws.{AreUnits, stream_of}
-use Rattle.hv_model.specs.Structure.{qp_at}
-use Rattle.hv_model.specs.Bins.{Site}
+use Rattle.hv_stream_model.specs.Bits.{bytes_of}
+use Rattle.hv_stream_model.specs.Fields.{Field, bits_of_fields, aligned}
+use Rattle.hv_stream_model.specs.Units.{NalUnit, IsUnit, unit_bytes}
+use Rattle.hv_stream_model.specs.Headers.{Size, vps, sps, pps, read_vps, read_sps, read_pps, size_of}
+use Rattle.hv_stream_model.specs.HeaderLaws.{IsAllowed}
+use Rattle.hv_stream_model.specs.UnitLaws.{AreUnits, stream_of}
+use Rattle.hv_group_model.specs.Structure.{qp_at}
+use Rattle.hv_syntax_model.specs.Bins.{Site}
 use Rattle.hv_model.specs.Encoding as encoding
 use Rattle.hv_model.specs.Decoding.{picture_of_unit, is_passed_over, picture_then, pictures_of_units, parameters, with_parameters, pictures_after_sets, decode_units, decode_of}
 use Rattle.hv_model.specs.Built.{IsBuilt, is_built, BuiltIsDecided}
 use Rattle.hv_model.specs.RoundTrip.{DecodingGivesReconstruction, EachIsReconstructed}
-use Rattle.hv_model.proofs.HeaderLaws.{reads_vps, reads_sps, reads_pps, codable_vps, codable_sps, codable_pps, sizes_allowed}
-use Rattle.hv_model.proofs.BlockLaws.{coded_units_valid, sites_there}
+use Rattle.hv_stream_model.proofs.HeaderLaws.{reads_vps, reads_sps, reads_pps, codable_vps, codable_sps, codable_pps, sizes_allowed}
+use Rattle.hv_model.proofs.SliceDataLaws.{coded_units_valid}
+use Rattle.hv_syntax_model.proofs.BlockLaws.{sites_there}
 use Rattle.hv_model.proofs.PayloadLaws.{parameters-back}
 use Rattle.hv_model.proofs.SliceLaws.{slices_back, slices_end}
-use Rattle.hv_model.proofs.UnitLaws.{streams_read, stream_of_units}
-use Rattle.hv_model.proofs.FieldLaws.{last_of-aligned}
+use Rattle.hv_stream_model.proofs.UnitLaws.{streams_read, stream_of_units}
+use Rattle.hv_stream_model.proofs.FieldLaws.{last_of-aligned}
 
 -- ---- the units that the encoder writes
 

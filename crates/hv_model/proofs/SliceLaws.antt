@@ -4,27 +4,30 @@ use Rattle.std.specs.Prelude.{Option, Some, None, option_and_then, option_map}
 use Rattle.hv_types.specs.declared.bins.SliceKind.{SliceKind}
 use Rattle.hv_types.specs.declared.bins.SliceKind.TheVariants.{I}
 use Rattle.hv_types.specs.Bins.{Bin}
-use Rattle.hv_model.specs.Bits.{digits, bits_of, bytes_of}
-use Rattle.hv_model.specs.BitLaws.{AreBits}
-use Rattle.hv_model.specs.Contexts.{first_variables}
-use Rattle.hv_model.specs.CodeWord.{Interval, first_interval, reach, odd_from, word}
-use Rattle.hv_model.specs.Fields.{bits_of_fields, read_header, padding_of, aligned}
-use Rattle.hv_model.specs.Units.{last_of}
-use Rattle.hv_model.specs.Headers.{Size, idr_slice, read_idr_slice}
-use Rattle.hv_model.specs.Oracle.{Oracle, begin, read, bits_left}
-use Rattle.hv_model.specs.Trees.{CodingTreeUnit}
-use Rattle.hv_model.specs.Bins.{Site, AreValid, slice_bins}
-use Rattle.hv_model.specs.BlockSyntax.{slice_segment_data}
+use Rattle.hv_stream_model.specs.Bits.{digits, bits_of, bytes_of}
+use Rattle.hv_stream_model.specs.BitLaws.{AreBits}
+use Rattle.hv_entropy_model.specs.Contexts.{first_variables}
+use Rattle.hv_entropy_model.specs.CodeWord.{Interval, first_interval, reach, odd_from, word}
+use Rattle.hv_stream_model.specs.Fields.{bits_of_fields, read_header, padding_of, aligned}
+use Rattle.hv_stream_model.specs.Units.{last_of}
+use Rattle.hv_stream_model.specs.Headers.{Size, idr_slice, read_idr_slice}
+use Rattle.hv_entropy_model.specs.Oracle.{Oracle, begin, read, bits_left}
+use Rattle.hv_syntax_model.specs.Trees.{CodingTreeUnit}
+use Rattle.hv_syntax_model.specs.Bins.{Site, AreValid, slice_bins}
+use Rattle.hv_syntax_model.specs.BlockSyntax.{slice_segment_data}
 use Rattle.hv_model.specs.Decoding.{behind_alignment, is_slice_end, if_ended, slice_data, has_type, sites_of, picture_shown, slice_after_header}
-use Rattle.hv_model.specs.PayloadLaws.{missing, SliceDataIsRead, slice_of, SlicesAreRead, SlicesEnd}
-use Rattle.hv_model.proofs.SmallFacts.{zeros, length-zeros}
-use Rattle.hv_model.proofs.DigitLaws.{digits-add}
-use Rattle.hv_model.proofs.BitLaws.{AreBits-digits, AreBits-append}
-use Rattle.hv_model.proofs.OracleLaws.{script_reads_code_word}
-use Rattle.hv_model.proofs.HeaderLaws.{reads_idr_slice, codable_idr_slice}
-use Rattle.hv_model.proofs.BlockLaws.{reads_slice, slice_ends}
-use Rattle.hv_model.proofs.PayloadLaws.{bytes_of-zeros, bits_of-bytes_of-zeros, AreBits-fields, AreBits-aligned, alignment-back, slice_end}
-use Rattle.hv_model.proofs.FieldLaws.{length-aligned, last_of-aligned, fields_read_back}
+use Rattle.hv_stream_model.specs.BitLaws.{missing}
+use Rattle.hv_model.specs.PayloadLaws.{SliceDataIsRead, slice_of, SlicesAreRead, SlicesEnd}
+use Rattle.hv_stream_model.proofs.SmallFacts.{zeros, length-zeros}
+use Rattle.hv_stream_model.proofs.DigitLaws.{digits-add}
+use Rattle.hv_stream_model.proofs.BitLaws.{AreBits-digits, AreBits-append}
+use Rattle.hv_entropy_model.proofs.OracleLaws.{script_reads_code_word}
+use Rattle.hv_stream_model.proofs.HeaderLaws.{reads_idr_slice, codable_idr_slice}
+use Rattle.hv_syntax_model.proofs.BlockLaws.{reads_slice}
+use Rattle.hv_model.proofs.SliceDataLaws.{slice_ends}
+use Rattle.hv_stream_model.proofs.FilledBits.{bytes_of-zeros, bits_of-bytes_of-zeros, AreBits-fields}
+use Rattle.hv_model.proofs.PayloadLaws.{AreBits-aligned, alignment-back, slice_end}
+use Rattle.hv_stream_model.proofs.FieldLaws.{length-aligned, last_of-aligned, fields_read_back}
 
 -- ---- the code word ends in a one
 

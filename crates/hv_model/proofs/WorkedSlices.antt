@@ -1,15 +1,42 @@
 -- Worked slices of pictures of several sizes, computed by the definitions.
-use Rattle.std.proofs.Common.{◌≡◌, true, false, [], ◌∷◌, drop, refl}
-use Rattle.hv_types.specs.declared.bins.CtxTable.TheVariants.{PartMode, PrevIntra, ChromaMode, CbfLuma, CbfChroma, SaoMerge, SaoType}
-use Rattle.hv_types.specs.Bins.{bypass_bin, terminate_bin}
-use Rattle.hv_model.specs.Bits.{first_bytes}
-use Rattle.hv_model.specs.Fields.{log2_of}
-use Rattle.hv_model.specs.Contexts.{lps_width, next_variable, first_variables}
-use Rattle.hv_model.specs.CodeWord.{shift_of}
-use Rattle.hv_model.specs.Trees.{Tree, Leaf, Split as SplitTree, Outside, Intra, blank_tree}
-use Rattle.hv_model.specs.Bins.{bin, sites, slice_bins}
+use Rattle.std.proofs.Common.{◌≡◌, true, false, List, [], ◌∷◌, drop, refl}
+use Rattle.hv_types.specs.declared.bins.SliceKind.TheVariants.{I}
+use Rattle.hv_types.specs.declared.bins.CtxTable.TheVariants.{Split, PartMode, PrevIntra, ChromaMode, CbfLuma, CbfChroma, SaoMerge, SaoType}
+use Rattle.hv_types.specs.Bins.{Bin, bypass_bin, terminate_bin}
+use Rattle.hv_stream_model.specs.Bits.{bytes_of, first_bytes}
+use Rattle.hv_stream_model.specs.Fields.{log2_of}
+use Rattle.hv_entropy_model.specs.Contexts.{lps_width, next_variable, first_variables}
+use Rattle.hv_entropy_model.specs.CodeWord.{shift_of, reach, first_interval, word}
+use Rattle.hv_syntax_model.specs.Trees.{Tree, Leaf, Split as SplitTree, Outside, Intra, blank_tree}
+use Rattle.hv_syntax_model.specs.Bins.{bin, sites, slice_bins}
 use Rattle.hv_model.specs.Encoding.{coded_units, slice_payload}
-use Rattle.hv_model.proofs.WorkedWords.{grey_bins}
+
+-- ---- a grey block of 64x64
+
+-- the bins of a grey block of 64x64
+abbrev pub grey_bins : List Bin
+grey_bins =
+    bin SaoType 0 false ∷ bin SaoType 0 false ∷ bin Split 0 false ∷ bin PrevIntra 0 true ∷
+    bypass_bin true ∷ bypass_bin false ∷ bin ChromaMode 0 false ∷ bin CbfChroma 0 false ∷
+    bin CbfChroma 0 false ∷ bin CbfLuma 0 false ∷ bin CbfLuma 0 false ∷ bin CbfLuma 0 false ∷
+    bin CbfLuma 0 false ∷ terminate_bin true ∷ []
+
+grey_low : (reach (first_interval (first_variables I 26)) grey_bins).low ≡ 30467552
+unfolding shift_of lps_width next_variable first_variables
+grey_low = refl
+
+grey_range : (reach (first_interval (first_variables I 26)) grey_bins).range ≡ 288
+unfolding shift_of lps_width next_variable first_variables
+grey_range = refl
+
+-- before the bin that ends the slice the interval was doubled sixteen times
+grey_n : (reach (first_interval (first_variables I 26)) grey_bins).n ≡ 16
+unfolding shift_of lps_width next_variable first_variables
+grey_n = refl
+
+grey_bytes : bytes_of (word I 26 grey_bins) ≡ 232 ∷ 115 ∷ 127 ∷ 128 ∷ []
+unfolding shift_of lps_width next_variable first_variables first_bytes
+grey_bytes = refl
 
 -- ---- what a slice of 64x64 and one of 8x8 are coded as
 

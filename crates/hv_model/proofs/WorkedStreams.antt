@@ -1,16 +1,15 @@
--- A grey picture of 64x64 and its 80 bytes, and the coding order of groups, computed by the
--- definitions.
+-- A grey picture of 64x64 and its 80 bytes, computed by the definitions.
 use Rattle.std.proofs.Common.{◌≡◌, ℕ, List, [], ◌∷◌, refl, map}
 use Rattle.std.specs.Prelude.{Some, None}
 use Rattle.hv_types.specs.declared.settings.Settings.{Settings}
 use Rattle.hv_types.specs.declared.settings.Emit.TheVariants.{Stream}
 use Rattle.hv_types.specs.Video.{crop}
-use Rattle.hv_model.specs.Bits.{first_bytes}
-use Rattle.hv_model.specs.Contexts.{lps_width, next_variable, first_variables}
-use Rattle.hv_model.specs.CodeWord.{shift_of}
-use Rattle.hv_model.specs.Fields.{log2_of}
-use Rattle.hv_model.specs.Bins.{sites}
-use Rattle.hv_model.specs.Structure.{coding}
+use Rattle.hv_stream_model.specs.Bits.{first_bytes}
+use Rattle.hv_entropy_model.specs.Contexts.{lps_width, next_variable, first_variables}
+use Rattle.hv_entropy_model.specs.CodeWord.{shift_of}
+use Rattle.hv_stream_model.specs.Fields.{log2_of}
+use Rattle.hv_syntax_model.specs.Bins.{sites}
+use Rattle.hv_group_model.specs.Structure.{coding}
 use Rattle.hv_model.specs.Reconstruction.{grey}
 use Rattle.hv_model.specs.Encoding.{encode_of}
 use Rattle.hv_model.specs.Decoding.{decode_of}
@@ -49,12 +48,3 @@ eighty_bytes_decoded = refl
 
 no_pictures_without_units : decode_of [] ≡ Some []
 no_pictures_without_units = refl
-
-ten_pictures : map (λ c. c.picture) (coding 10 3) ≡ 0 ∷ 8 ∷ 4 ∷ 2 ∷ 1 ∷ 3 ∷ 6 ∷ 5 ∷ 7 ∷ 9 ∷ []
-ten_pictures = refl
-
-ten_depths : map (λ c. c.depth) (coding 10 3) ≡ 0 ∷ 1 ∷ 2 ∷ 3 ∷ 4 ∷ 4 ∷ 3 ∷ 4 ∷ 4 ∷ 1 ∷ []
-ten_depths = refl
-
-one_picture : map (λ c. c.picture) (coding 1 3) ≡ 0 ∷ []
-one_picture = refl

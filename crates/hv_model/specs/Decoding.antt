@@ -5,14 +5,14 @@ use Rattle.std.specs.List.{list_all}
 use Rattle.hv_types.specs.declared.bins.SliceKind.TheVariants.{I}
 use Rattle.hv_types.specs.declared.picture.Picture.{Picture}
 use Rattle.hv_types.specs.Video.{crop}
-use Rattle.hv_model.specs.Bits.{bits_of}
-use Rattle.hv_model.specs.Fields.{HeaderScript, read_header}
-use Rattle.hv_model.specs.Units.{NalUnit, units_of, is_zero, same_bytes, last_of}
-use Rattle.hv_model.specs.Headers.{Size, read_vps, read_sps, read_pps, read_idr_slice}
-use Rattle.hv_model.specs.Oracle.{Oracle, begin, read, bits_left}
-use Rattle.hv_model.specs.Trees.{CodingTreeUnit}
-use Rattle.hv_model.specs.Bins.{Site, sites}
-use Rattle.hv_model.specs.BlockSyntax.{slice_segment_data}
+use Rattle.hv_stream_model.specs.Bits.{bits_of}
+use Rattle.hv_stream_model.specs.Fields.{HeaderScript, read_header}
+use Rattle.hv_stream_model.specs.Units.{NalUnit, units_of, is_zero, same_bytes, last_of}
+use Rattle.hv_stream_model.specs.Headers.{Size, read_vps, read_sps, read_pps, read_idr_slice}
+use Rattle.hv_entropy_model.specs.Oracle.{Oracle, begin, read, bits_left}
+use Rattle.hv_syntax_model.specs.Trees.{CodingTreeUnit}
+use Rattle.hv_syntax_model.specs.Bins.{Site, sites}
+use Rattle.hv_syntax_model.specs.BlockSyntax.{slice_segment_data}
 use Rattle.hv_model.specs.Reconstruction.{unfiltered}
 use Rattle.hv_model.specs.Deblocking.{deblocked}
 use Rattle.hv_model.specs.SampleAdaptiveOffset.{shown}

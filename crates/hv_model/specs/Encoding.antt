@@ -8,32 +8,18 @@ use Rattle.hv_types.specs.declared.settings.Emit.TheVariants.{Stream, Recon}
 use Rattle.hv_types.specs.Configuration.{padded_width, padded_height}
 use Rattle.hv_types.specs.declared.picture.Picture.{Picture}
 use Rattle.hv_types.specs.Video.{raw, crop}
-use Rattle.hv_model.specs.Bits.{bytes_of}
-use Rattle.hv_model.specs.Fields.{Field, bits_of_fields, aligned}
-use Rattle.hv_model.specs.Units.{unit_bytes}
-use Rattle.hv_model.specs.Headers.{vps, sps, pps, idr_slice, size_of}
-use Rattle.hv_model.specs.Structure.{qp_at}
-use Rattle.hv_model.specs.Trees.{Off, CodingTreeUnit}
-use Rattle.hv_model.specs.Bins.{Site, sites, is_empty, slice_bins}
-use Rattle.hv_model.specs.CodeWord.{word}
+use Rattle.hv_stream_model.specs.Bits.{bytes_of}
+use Rattle.hv_stream_model.specs.Fields.{bits_of_fields, aligned}
+use Rattle.hv_stream_model.specs.Units.{unit_of_payload}
+use Rattle.hv_stream_model.specs.Headers.{parameter_sets, idr_slice}
+use Rattle.hv_group_model.specs.Structure.{qp_at}
+use Rattle.hv_syntax_model.specs.Trees.{Off, CodingTreeUnit}
+use Rattle.hv_syntax_model.specs.Bins.{Site, sites, is_empty, slice_bins}
+use Rattle.hv_entropy_model.specs.CodeWord.{word}
 use Rattle.hv_model.specs.ModeDecision.{best}
 use Rattle.hv_model.specs.Reconstruction.{unfiltered}
 use Rattle.hv_model.specs.Deblocking.{deblocked}
 use Rattle.hv_model.specs.SampleAdaptiveOffset.{shown}
-
--- a unit of the base layer and the lowest sub-layer, with its start code
-abbrev pub unit_of_payload : ℕ → List ℕ → List ℕ
-unit_of_payload nal_unit_type payload =
-    unit_bytes (record { nal_unit_type = nal_unit_type; nuh_layer_id = 0; TemporalId = 0; payload = payload })
-
--- a parameter set, with its trailing bits
-abbrev pub parameter_set : ℕ → List Field → List ℕ
-parameter_set nal_unit_type fields = unit_of_payload nal_unit_type (bytes_of (aligned (bits_of_fields fields)))
-
--- VPS, SPS and PPS
-abbrev pub parameter_sets : Settings → List ℕ
-parameter_sets cfg =
-    parameter_set 32 (vps cfg.levels) ++ parameter_set 33 (sps cfg.levels (size_of cfg)) ++ parameter_set 34 pps
 
 -- ---- a picture
 

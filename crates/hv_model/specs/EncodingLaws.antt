@@ -2,7 +2,8 @@
 use Rattle.std.specs.Prelude.{◌≡◌, ℕ, List, [], ◌∷◌, ◌++◌, length}
 use Rattle.hv_types.specs.declared.settings.Settings.{Settings}
 use Rattle.hv_types.specs.declared.picture.Picture.{Picture}
-use Rattle.hv_model.specs.Encoding.{parameter_sets, picture_unit, encode_of}
+use Rattle.hv_stream_model.specs.Headers.{parameter_sets}
+use Rattle.hv_model.specs.Encoding.{picture_unit, encode_of}
 
 -- what is written between these pictures and one more: the parameter sets before the first picture
 abbrev pub sets_behind : Settings → List Picture → List ℕ

@@ -1,32 +1,16 @@
 -- What is read of a payload is what it was made with.
 use Rattle.std.specs.Prelude.{◌≡◌, ◌≢◌, ℕ, ◌-◌, ◌%◌, ◌<◌, ◌≤◌, true, List, [], ◌++◌, length, replicate, Some}
 use Rattle.hv_types.specs.declared.bins.SliceKind.TheVariants.{I}
-use Rattle.hv_model.specs.Bits.{bits_of, bytes_of}
-use Rattle.hv_model.specs.BitLaws.{AreBits}
-use Rattle.hv_model.specs.Scripts.{Reads}
-use Rattle.hv_model.specs.Fields.{Field, AllCodable, bits_of_fields, HeaderScript, padding_of, aligned}
-use Rattle.hv_model.specs.Units.{NalUnit, last_of}
-use Rattle.hv_model.specs.Headers.{Size, idr_slice}
-use Rattle.hv_model.specs.CodeWord.{word}
-use Rattle.hv_model.specs.Trees.{CodingTreeUnit}
-use Rattle.hv_model.specs.Bins.{Site, AreValid, slice_bins}
+use Rattle.hv_stream_model.specs.Bits.{bits_of, bytes_of}
+use Rattle.hv_stream_model.specs.BitLaws.{AreBits}
+use Rattle.hv_stream_model.specs.Scripts.{Reads}
+use Rattle.hv_stream_model.specs.Fields.{Field, AllCodable, bits_of_fields, HeaderScript, padding_of, aligned}
+use Rattle.hv_stream_model.specs.Units.{NalUnit, last_of}
+use Rattle.hv_stream_model.specs.Headers.{Size, idr_slice}
+use Rattle.hv_entropy_model.specs.CodeWord.{word}
+use Rattle.hv_syntax_model.specs.Trees.{CodingTreeUnit}
+use Rattle.hv_syntax_model.specs.Bins.{Site, AreValid, slice_bins}
 use Rattle.hv_model.specs.Decoding.{parameters, behind_alignment, slice_data, has_type, sites_of, picture_shown, picture_of_unit}
-
--- the bits of fields, and of those behind them
-abbrev pub JoinedFieldsHaveJoinedBits : Type 0
-JoinedFieldsHaveJoinedBits =
-    (fields others : List Field) →
-    bits_of_fields (fields ++ others) ≡ bits_of_fields fields ++ bits_of_fields others
-
--- the zeros from so many bits to the byte
-abbrev pub missing : ℕ → ℕ
-missing length_so_far = (8 - length_so_far % 8) % 8
-
--- the bits of the bytes that any bits make: zeros to the byte follow them
-abbrev pub BitsComeBackFilled : Type 0
-BitsComeBackFilled =
-    (bits : List ℕ) → AreBits bits →
-    bits_of (bytes_of bits) ≡ bits ++ replicate (missing (length bits)) 0
 
 -- a parameter set (7.3.2), from its fields and their trailing bits
 abbrev pub ParametersAreRead : Type 0 → Type 0

@@ -2,7 +2,7 @@
 use Rattle.std.specs.Prelude.{ℕ, ◌/◌, List}
 use Rattle.hv_types.specs.declared.picture.Picture.{Picture}
 use Rattle.hv_types.specs.Samples.{filled}
-use Rattle.hv_model.specs.Trees.{Tree}
+use Rattle.hv_syntax_model.specs.Trees.{Tree}
 
 -- every sample of these sides is the middle one
 abbrev pub grey : ℕ → ℕ → Picture

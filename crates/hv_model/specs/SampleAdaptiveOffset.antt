@@ -1,7 +1,7 @@
 -- Sample adaptive offset (8.7.3). So far it is off in every coding tree block.
 use Rattle.std.specs.Prelude.{List}
 use Rattle.hv_types.specs.declared.picture.Picture.{Picture}
-use Rattle.hv_model.specs.Trees.{Offsets}
+use Rattle.hv_syntax_model.specs.Trees.{Offsets}
 
 abbrev pub shown : Picture → List Offsets → Picture
 shown picture offsets = picture

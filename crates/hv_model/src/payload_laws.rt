@@ -1,15 +1,5 @@
 // What is read of a payload is what it was made with.
-ghost use Rattle.hv_model.specs.PayloadLaws.{JoinedFieldsHaveJoinedBits, BitsComeBackFilled, ParametersAreRead, AlignmentIsRead, SliceDataIsRead, SlicesAreRead, SlicesEnd};
-
-/// The bits of fields and of those behind them are the bits of the first and then of the others.
-pub fn joined_fields_have_joined_bits()
-    ensures { JoinedFieldsHaveJoinedBits }
-{}
-
-/// The bits of the bytes that any bits make are these bits, with zeros to the byte.
-pub fn bits_come_back_filled()
-    ensures { BitsComeBackFilled }
-{}
+ghost use Rattle.hv_model.specs.PayloadLaws.{ParametersAreRead, AlignmentIsRead, SliceDataIsRead, SlicesAreRead, SlicesEnd};
 
 /// A parameter set's payload (7.3.2), its fields with rbsp_trailing_bits (7.3.2.11), is read as the
 /// value that the script reads from the fields.

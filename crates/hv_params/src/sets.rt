@@ -1,10 +1,11 @@
 // The parameter sets, field by field, and their units.
 ghost use Rattle.std.specs.Prelude.{◌≡◌, ◌≤◌, ◌<◌, false, IfOk};
 ghost use Rattle.hv_bits.specs.Writing.{Appends};
-ghost use Rattle.hv_model.specs.Bits.{bytes_of};
-ghost use Rattle.hv_model.specs.Fields.{bits_of_fields, aligned};
-ghost use Rattle.hv_model.specs.Headers.{Size, size_of, window, size_fields, vps, sps, pps};
-ghost use Rattle.hv_model.specs.Encoding.{unit_of_payload, parameter_set};
+ghost use Rattle.hv_stream_model.specs.Bits.{bytes_of};
+ghost use Rattle.hv_stream_model.specs.Fields.{bits_of_fields, aligned};
+ghost use Rattle.hv_stream_model.specs.Headers.{Size, size_of, window, size_fields, vps, sps, pps};
+ghost use Rattle.hv_stream_model.specs.Units.{unit_of_payload};
+ghost use Rattle.hv_stream_model.specs.Headers.{parameter_set};
 
 use crate::tables::{
     PPS, PROFILE_TIER_LEVEL, SPS_DEPTHS, SPS_END, SPS_FORMAT, SPS_START, VPS_END, VPS_START,
@@ -12,7 +13,7 @@ use crate::tables::{
 };
 use hv_bits::Field::{U, Ue};
 use hv_bits::{BitWriter, put_fields, tables_join, write_nal};
-use hv_model::aligned_bytes_end;
+use hv_stream_model::aligned_bytes_end;
 use hv_types::{Config, NoMemory};
 use std::alloc::Global;
 

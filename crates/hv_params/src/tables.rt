@@ -3,7 +3,7 @@
 ghost use Rattle.std.specs.Prelude.{◌≡◌, ◌≤◌, true, map};
 ghost use Rattle.std.specs.List.{list_all};
 ghost use Rattle.hv_bits.specs.FieldTables.{field_of, is_codable};
-ghost use Rattle.hv_model.specs.Headers.{ordering as ordering_of};
+ghost use Rattle.hv_stream_model.specs.Headers.{ordering as ordering_of};
 
 use hv_bits::Field::{self, Se, U, Ue};
 

@@ -4,10 +4,10 @@ use Rattle.std.specs.Prelude.{Option, Some, None, IfSome, slice_get}
 use Rattle.std.proofs.lemmas.Option.{slice_get-get_or, slice_get_past, slice_get_cases, slice_get_within}
 use Rattle.std.proofs.lemmas.List.{drop_all}
 use Rattle.std.proofs.lemmas.List.{get_or_append_left, get_or-append_right}
-use Rattle.hv_model.proofs.BitLaws.{length-bits_of}
-use Rattle.hv_model.specs.Bits.{digits, bits_of}
-use Rattle.hv_model.specs.Contexts.{ContextVariable}
-use Rattle.hv_model.specs.Oracle.{read_bits}
+use Rattle.hv_stream_model.proofs.BitLaws.{length-bits_of}
+use Rattle.hv_stream_model.specs.Bits.{digits, bits_of}
+use Rattle.hv_entropy_model.specs.Contexts.{ContextVariable}
+use Rattle.hv_entropy_model.specs.Oracle.{read_bits}
 
 pub get_or-digits : (k v i d : ℕ) → i < k → get_or (digits k v) i d ≡ v / 2 ^ (k - 1 - i) % 2
 get_or-digits zero v i d h = absurd (omega arith)

@@ -1,9 +1,9 @@
 -- The bits of a field, as a program puts them digit by digit.
 use Rattle.std.proofs.Common.{◌≡◌, ℕ, zero, suc, ◌+◌, ◌-◌, ◌/◌, ◌%◌, ◌^◌, ◌<◌, List, [], ◌∷◌, ◌++◌, refl, sym, ap, ◌∙◌, arith, append_assoc, pow_pos}
 use Rattle.std.specs.Prelude.{replicate}
-use Rattle.hv_model.specs.Bits.{digits}
-use Rattle.hv_model.specs.Fields.{log2_of, exp_golomb}
-use Rattle.hv_model.proofs.DigitLaws.{digits-add}
+use Rattle.hv_stream_model.specs.Bits.{digits}
+use Rattle.hv_stream_model.specs.Fields.{log2_of, exp_golomb}
+use Rattle.hv_stream_model.proofs.DigitLaws.{digits-add}
 
 digits_last : (k v : ℕ) → 0 < k → digits (k - 1) (v / 2) ++ v % 2 ∷ [] ≡ digits k v
 digits_last zero v h = absurd (omega arith)

@@ -2,9 +2,9 @@
 use Rattle.std.proofs.Common.{◌≡◌, ℕ, zero, suc, ◌+◌, ◌-◌, ◌*◌, ◌/◌, ◌%◌, ◌^◌, ◌<◌, ◌≤◌, List, [], ◌∷◌, ◌++◌, length, get_or, set, refl, sym, ap, ap₂, subst, ◌∙◌, arith, pow-add, pow-suc, pow_pos, length-append, length-set, mul-le-mul_right, All}
 use Rattle.std.proofs.lemmas.Nat.{shr_high}
 use Rattle.std.proofs.lemmas.List.Elements.{All-set, All-push}
-use Rattle.hv_model.specs.Bits.{digits, number_of}
-use Rattle.hv_model.specs.CodeWord.{odd_from}
-use Rattle.hv_model.proofs.DigitLaws.{digits_low}
+use Rattle.hv_stream_model.specs.Bits.{digits, number_of}
+use Rattle.hv_entropy_model.specs.CodeWord.{odd_from}
+use Rattle.hv_stream_model.proofs.DigitLaws.{digits_low}
 
 pub number_of-append : (xs ys : List ℕ) →
     number_of (xs ++ ys) ≡ number_of xs * 2 ^ length ys + number_of ys

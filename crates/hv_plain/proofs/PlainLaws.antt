@@ -1,10 +1,10 @@
 -- What the plain decoder's steps make of the definitions.
 use Rattle.std.proofs.Common.{◌≡◌, ℕ, ◌-◌, ◌*◌, ◌<◌, ◌≤◌, List, length, drop, refl, sym, ap, ◌∙◌, arith, lt-ltb, le-ltb, length-drop}
 use Rattle.std.specs.Prelude.{Some, None}
-use Rattle.hv_model.specs.Bits.{bits_of}
-use Rattle.hv_model.specs.Contexts.{ContextVariable}
-use Rattle.hv_model.specs.Oracle.{Decoder, read_bits, if_in_range, begin_decoder}
-use Rattle.hv_model.proofs.BitLaws.{length-bits_of}
+use Rattle.hv_stream_model.specs.Bits.{bits_of}
+use Rattle.hv_entropy_model.specs.Contexts.{ContextVariable}
+use Rattle.hv_entropy_model.specs.Oracle.{Decoder, read_bits, if_in_range, begin_decoder}
+use Rattle.hv_stream_model.proofs.BitLaws.{length-bits_of}
 
 abbrev decoder_of : List ℕ → ℕ → ℕ → List ContextVariable → Decoder
 decoder_of bits range offset variables =

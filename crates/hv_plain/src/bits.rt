@@ -1,9 +1,9 @@
 // Bits of bytes, read one by one.
 ghost use Rattle.std.specs.Prelude.{◌≡◌, ℕ, ◌+◌, ◌*◌, ◌^◌, ◌<◌, ◌≤◌, List, length, drop, Option, option_map, slice_get, IfSome};
-ghost use Rattle.hv_model.specs.Bits.{bits_of};
-ghost use Rattle.hv_model.specs.Contexts.{ContextVariable};
-ghost use Rattle.hv_model.specs.Oracle.{read_bits};
-ghost use Rattle.hv_model.specs.CodeWord.{shift_of, doublings};
+ghost use Rattle.hv_stream_model.specs.Bits.{bits_of};
+ghost use Rattle.hv_entropy_model.specs.Contexts.{ContextVariable};
+ghost use Rattle.hv_entropy_model.specs.Oracle.{read_bits};
+ghost use Rattle.hv_entropy_model.specs.CodeWord.{shift_of, doublings};
 
 /// The bit at a place of the bytes, none past their end.
 fn bit_at(bytes: &[u8], at: usize) -> Option<u8>
@@ -56,7 +56,7 @@ fn doublings(fuel: u32, width: u32) -> u32
 }
 
 /// How often a width doubles until it has 256 (9.3.4.3.3).
-#[tactic(auto, using(hv_model::proofs::Intervals::shift_fits), unfolding(hv_model::specs::CodeWord::shift_of))]
+#[tactic(auto, using(hv_entropy_model::proofs::Intervals::shift_fits), unfolding(hv_entropy_model::specs::CodeWord::shift_of))]
 pub fn shift_of(width: u32) -> u32
     requires some { 0 < width }
     requires narrow { width ≤ 510 }

@@ -1,7 +1,7 @@
 // The place of each context's variable, and the variable that stands there.
 ghost use Rattle.std.specs.Prelude.{◌≡◌, ◌≤◌};
-ghost use Rattle.hv_model.specs.ContextTables.{offset_of};
-ghost use Rattle.hv_model.specs.Contexts.{place_of, variable_at, with_variable};
+ghost use Rattle.hv_tables.specs.ContextTables.{offset_of};
+ghost use Rattle.hv_entropy_model.specs.Contexts.{place_of, variable_at, with_variable};
 
 use crate::variables::Variable;
 use hv_types::{Ctx, CtxTable};

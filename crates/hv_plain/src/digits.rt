@@ -1,6 +1,6 @@
 // Binary digits as a number that is never cut.
 ghost use Rattle.std.specs.Prelude.{◌≡◌, ◌+◌, ◌*◌, ◌^◌, ◌<◌, ◌≤◌, length, All, OnOk};
-ghost use Rattle.hv_model.specs.Bits.{number_of};
+ghost use Rattle.hv_stream_model.specs.Bits.{number_of};
 
 use std::alloc::AllocError;
 

@@ -1,6 +1,6 @@
 // Emulation prevention, byte by byte.
 ghost use Rattle.std.specs.Prelude.{◌≡◌, ◌+◌, ◌<◌, ◌≤◌, ◌^◌, ◌++◌, ◌∷◌, [], cond, IfOk, OnOk};
-ghost use Rattle.hv_model.specs.Units.{run_after, needs_three, escape};
+ghost use Rattle.hv_stream_model.specs.Units.{run_after, needs_three, escape};
 
 use hv_types::NoMemory;
 use std::alloc::{AllocError, Global};

@@ -1,7 +1,7 @@
 // The bits of fields (7.2, 9.2), bit by bit.
 ghost use Rattle.std.specs.Prelude.{◌≡◌, ◌+◌, ◌<◌, ◌≤◌, ◌^◌, ◌++◌, map, IfOk, OnOk};
-ghost use Rattle.hv_model.specs.Bits.{digits};
-ghost use Rattle.hv_model.specs.Fields.{halvings, log2_of, exp_golomb, field_bits, bits_of_fields};
+ghost use Rattle.hv_stream_model.specs.Bits.{digits};
+ghost use Rattle.hv_stream_model.specs.Fields.{halvings, log2_of, exp_golomb, field_bits, bits_of_fields};
 ghost use Rattle.hv_plain.specs.PlainFields.{field_of};
 
 use hv_types::NoMemory;
@@ -87,7 +87,7 @@ fn halvings(fuel: u32, number: u64) -> u32
 }
 
 /// The greatest k for which 2^k is at most the number, which is not 0.
-#[tactic(auto, unfolding(hv_model::specs::Fields::log2_of))]
+#[tactic(auto, unfolding(hv_stream_model::specs::Fields::log2_of))]
 fn log2_of(number: u64) -> u32
     ensures value { result ≡ log2_of number }
     ensures few { result ≤ 64 }

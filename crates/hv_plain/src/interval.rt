@@ -1,9 +1,9 @@
 // The interval of the arithmetic coder, bin by bin, with a low end that is never cut.
 ghost use Rattle.std.specs.Prelude.{◌≡◌, ◌+◌, ◌-◌, ◌*◌, ◌^◌, ◌<◌, ◌≤◌, false, cond, length, All, IfOk};
 ghost use Rattle.hv_types.specs.Bins.{context_bin, bypass_bin, terminate_bin};
-ghost use Rattle.hv_model.specs.Bits.{number_of};
-ghost use Rattle.hv_model.specs.Contexts.{first_variables};
-ghost use Rattle.hv_model.specs.CodeWord.{Interval, first_interval, shift_of, cut_at, cut_to, advance, word_at};
+ghost use Rattle.hv_stream_model.specs.Bits.{number_of};
+ghost use Rattle.hv_entropy_model.specs.Contexts.{first_variables};
+ghost use Rattle.hv_entropy_model.specs.CodeWord.{Interval, first_interval, shift_of, cut_at, cut_to, advance, word_at};
 
 use crate::bits::shift_of;
 use crate::contexts::variable_at;
@@ -24,8 +24,8 @@ pub struct PlainInterval {
 
 impl Model for PlainInterval {
     ghost use Rattle.std.specs.Prelude.{◌+◌, ◌-◌, ◌*◌, ◌^◌, ◌<◌, ◌≤◌, length, All};
-    ghost use Rattle.hv_model.specs.Bits.{number_of};
-    ghost use Rattle.hv_model.specs.CodeWord.{Interval};
+    ghost use Rattle.hv_stream_model.specs.Bits.{number_of};
+    ghost use Rattle.hv_entropy_model.specs.CodeWord.{Interval};
 
     ghost Value = { Interval };
 

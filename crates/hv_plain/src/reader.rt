@@ -1,10 +1,10 @@
 // The arithmetic decoder (9.3.4.3), bin by bin.
 ghost use Rattle.std.specs.Prelude.{◌≡◌, ◌-◌, ◌*◌, ◌^◌, ◌<◌, ◌≤◌, true, false, length, drop, IfOk, IfSome, MatchOption, MatchResult, None, Some};
 ghost use Rattle.hv_types.specs.Bins.{Context, Bypass, Terminate};
-ghost use Rattle.hv_model.specs.Bits.{bits_of};
-ghost use Rattle.hv_model.specs.Contexts.{first_variables, variable_at, with_variable, next_variable};
-ghost use Rattle.hv_model.specs.CodeWord.{shift_of};
-ghost use Rattle.hv_model.specs.Oracle.{begin_decoder, renormalize, with_value, decode};
+ghost use Rattle.hv_stream_model.specs.Bits.{bits_of};
+ghost use Rattle.hv_entropy_model.specs.Contexts.{first_variables, variable_at, with_variable, next_variable};
+ghost use Rattle.hv_entropy_model.specs.CodeWord.{shift_of};
+ghost use Rattle.hv_entropy_model.specs.Oracle.{begin_decoder, renormalize, with_value, decode};
 
 use crate::bits::{read_bits, shift_of};
 use crate::contexts::{put_variable, variable_at};
@@ -25,8 +25,8 @@ pub struct Reader<'a> {
 
 impl<'a> Model for Reader<'a> {
     ghost use Rattle.std.specs.Prelude.{◌*◌, ◌^◌, ◌<◌, ◌≤◌, length, drop};
-    ghost use Rattle.hv_model.specs.Bits.{bits_of};
-    ghost use Rattle.hv_model.specs.Oracle.{Decoder};
+    ghost use Rattle.hv_stream_model.specs.Bits.{bits_of};
+    ghost use Rattle.hv_entropy_model.specs.Oracle.{Decoder};
 
     ghost Value = { Decoder };
 
@@ -54,8 +54,8 @@ pub struct Ended<'a> {
 
 impl<'a> Model for Ended<'a> {
     ghost use Rattle.std.specs.Prelude.{◌*◌, ◌^◌, ◌<◌, ◌≤◌, length, drop};
-    ghost use Rattle.hv_model.specs.Bits.{bits_of};
-    ghost use Rattle.hv_model.specs.Oracle.{Decoder};
+    ghost use Rattle.hv_stream_model.specs.Bits.{bits_of};
+    ghost use Rattle.hv_entropy_model.specs.Oracle.{Decoder};
 
     ghost Value = { Decoder };
 

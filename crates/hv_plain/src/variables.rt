@@ -1,10 +1,10 @@
 // Context variables (9.3.2.2, 9.3.4.3.2).
 ghost use Rattle.std.specs.Prelude.{◌≡◌, ◌+◌, ◌*◌, ◌/◌, ◌%◌, ◌<◌, ◌≤◌, cond, not, nat_eq, IfOk, flat_map, length, slice_index_or, pos, negsuc, ◌+ℤ◌, ◌-ℤ◌, ◌*ℤ◌, ◌≤ℤ◌};
 ghost use Rattle.std.specs.Int.{int_shr};
-ghost use Rattle.hv_model.specs.ArithmeticTables.{transIdxLps};
-ghost use Rattle.hv_model.specs.ContextTables.{tables, values_of};
-ghost use Rattle.hv_model.specs.Clipping.{clip3};
-ghost use Rattle.hv_model.specs.Contexts.{preCtxState, first_variable, first_variables, lps_width, after_mps, after_lps, next_variable};
+ghost use Rattle.hv_tables.specs.ArithmeticTables.{transIdxLps};
+ghost use Rattle.hv_tables.specs.ContextTables.{tables, values_of};
+ghost use Rattle.hv_lemmas.specs.Clipping.{clip3};
+ghost use Rattle.hv_entropy_model.specs.Contexts.{preCtxState, first_variable, first_variables, lps_width, after_mps, after_lps, next_variable};
 
 use crate::tables::{INIT_VALUE_I, INIT_VALUE_P, RANGE_TAB_LPS, TRANS_IDX_LPS};
 use hv_types::SliceKind;
@@ -19,7 +19,7 @@ pub struct Variable {
 }
 
 impl Model for Variable {
-    ghost use Rattle.hv_model.specs.Contexts.{ContextVariable};
+    ghost use Rattle.hv_entropy_model.specs.Contexts.{ContextVariable};
 
     ghost Value = { ContextVariable };
 
@@ -30,7 +30,7 @@ impl Model for Variable {
 
 impl Variable {
     ghost use Rattle.std.specs.Prelude.{◌≡◌};
-    ghost use Rattle.hv_model.specs.Contexts.{no_variable};
+    ghost use Rattle.hv_entropy_model.specs.Contexts.{no_variable};
 
     /// What stands where a context has no variable.
     pub fn none() -> Variable
@@ -162,7 +162,7 @@ pub fn first_variables(alloc: Global, kind: SliceKind, qp: u8) -> Result<Vec<Var
 }
 
 /// The width of the less probable part of a range (9.3.4.3.2).
-#[tactic(auto, using(hv_model::proofs::Intervals::lps_bounds), unfolding(hv_model::specs::Contexts::lps_width))]
+#[tactic(auto, using(hv_entropy_model::proofs::Intervals::lps_bounds), unfolding(hv_entropy_model::specs::Contexts::lps_width))]
 pub fn lps_width(v: Variable, range: u32) -> u32
     ensures value { result ≡ lps_width v range }
     ensures least { 2 ≤ result }
@@ -208,7 +208,7 @@ fn after_lps(v: Variable) -> Variable
 }
 
 /// The variable after a bin of this value (9.3.4.3.2.2).
-#[tactic(auto, unfolding(hv_model::specs::Contexts::next_variable))]
+#[tactic(auto, unfolding(hv_entropy_model::specs::Contexts::next_variable))]
 pub fn next_variable(v: Variable, value: bool) -> Variable
     ensures { result ≡ next_variable v value }
 {

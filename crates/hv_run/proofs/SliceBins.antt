@@ -4,8 +4,8 @@ use Rattle.std.specs.Prelude.{nat_eq}
 use Rattle.std.specs.Int.{div_ceil}
 use Rattle.std.proofs.lemmas.Bool.{ne_eqb}
 use Rattle.hv_types.specs.Bins.{Bin}
-use Rattle.hv_model.specs.Trees.{Off, CodingTreeUnit}
-use Rattle.hv_model.specs.Bins.{Site, site, site_at, sites, sites_from, blocks_over, is_empty, bins, slice_bins}
+use Rattle.hv_syntax_model.specs.Trees.{Off, CodingTreeUnit}
+use Rattle.hv_syntax_model.specs.Bins.{Site, site, site_at, sites, sites_from, blocks_over, is_empty, bins, slice_bins}
 use Rattle.hv_model.specs.ModeDecision.{best}
 use Rattle.hv_model.specs.Encoding.{coded_units}
 

@@ -5,7 +5,8 @@ use Rattle.std.specs.Prelude.{nat_eq, Bool, true, false}
 use Rattle.hv_types.specs.declared.settings.Settings.{Settings}
 use Rattle.hv_types.specs.declared.settings.Emit.TheVariants.{Stream}
 use Rattle.hv_types.specs.declared.picture.Picture.{Picture}
-use Rattle.hv_model.specs.Encoding.{encode_of, output, parameter_sets, picture_unit}
+use Rattle.hv_model.specs.Encoding.{encode_of, output, picture_unit}
+use Rattle.hv_stream_model.specs.Headers.{parameter_sets}
 use Rattle.hv_model.proofs.EncodingLaws.{encoding_appends}
 use Rattle.hv_run.specs.Endings.{piece_of}
 

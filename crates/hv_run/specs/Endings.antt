@@ -4,7 +4,8 @@ use Rattle.hv_types.specs.declared.settings.Settings.{Settings}
 use Rattle.hv_types.specs.Outside.{Rises}
 use Rattle.hv_types.specs.Configuration.{picture_bytes}
 use Rattle.hv_types.specs.declared.picture.Picture.{Picture}
-use Rattle.hv_model.specs.Encoding.{output, parameter_sets, picture_unit}
+use Rattle.hv_model.specs.Encoding.{output, picture_unit}
+use Rattle.hv_stream_model.specs.Headers.{parameter_sets}
 use Rattle.hv_run.specs.declared.encode.Totals.{Totals}
 use Rattle.hv_run.specs.declared.encode.EncodeError.{EncodeError}
 use Rattle.hv_run.specs.declared.encode.EncodeError.TheVariants.{ReadFault, ShortPicture, WriteFault, NoMemory, TooLong}

@@ -2,7 +2,7 @@
 ghost use Rattle.std.specs.Prelude.{◌≡◌, length, IfOk};
 ghost use Rattle.hv_types.specs.declared.picture.Picture.{Picture as Shown};
 ghost use Rattle.hv_model.specs.Built.{IsBuilt};
-ghost use Rattle.hv_model.specs.Encoding.{parameter_sets as parameter_sets_of};
+ghost use Rattle.hv_stream_model.specs.Headers.{parameter_sets as parameter_sets_of};
 ghost use Rattle.hv_model.specs.Encoding.{picture_unit as picture_unit_of};
 
 use crate::slice::slice_payload;

@@ -1,15 +1,15 @@
 // The slice of an IDR picture in which nothing is chosen: its header, and its data.
 ghost use Rattle.std.specs.Prelude.{◌≡◌, ◌≢◌, ◌*◌, ◌^◌, ◌<◌, ◌≤◌, [], ◌∷◌, ◌++◌, true, false, IfOk};
 ghost use Rattle.hv_types.specs.Bins.{Puts};
-ghost use Rattle.hv_model.specs.Bits.{bytes_of};
-ghost use Rattle.hv_model.specs.Fields.{aligned, bits_of_fields};
-ghost use Rattle.hv_model.specs.Units.{last_of};
-ghost use Rattle.hv_model.specs.Headers.{idr_slice as idr_slice_of};
-ghost use Rattle.hv_model.specs.Structure.{qp_at};
-ghost use Rattle.hv_model.specs.Trees.{Off, blank_tree};
-ghost use Rattle.hv_model.specs.Bins.{bin, site_at, sites, merge_bins, part_bins};
-ghost use Rattle.hv_model.specs.Bins.{prediction_bins, luma_bins, transform_bins, unit_bins};
-ghost use Rattle.hv_model.specs.Bins.{split_bins, tree_bins, bins, slice_bins};
+ghost use Rattle.hv_stream_model.specs.Bits.{bytes_of};
+ghost use Rattle.hv_stream_model.specs.Fields.{aligned, bits_of_fields};
+ghost use Rattle.hv_stream_model.specs.Units.{last_of};
+ghost use Rattle.hv_stream_model.specs.Headers.{idr_slice as idr_slice_of};
+ghost use Rattle.hv_group_model.specs.Structure.{qp_at};
+ghost use Rattle.hv_syntax_model.specs.Trees.{Off, blank_tree};
+ghost use Rattle.hv_syntax_model.specs.Bins.{bin, site_at, sites, merge_bins, part_bins};
+ghost use Rattle.hv_syntax_model.specs.Bins.{prediction_bins, luma_bins, transform_bins, unit_bins};
+ghost use Rattle.hv_syntax_model.specs.Bins.{split_bins, tree_bins, bins, slice_bins};
 ghost use Rattle.hv_model.specs.ModeDecision.{best};
 ghost use Rattle.hv_model.specs.Encoding.{coded_units, picture_sites, slice_data_of};
 ghost use Rattle.hv_model.specs.Encoding.{slice_payload as slice_payload_of};
@@ -17,11 +17,10 @@ ghost use Rattle.hv_model.specs.Encoding.{slice_payload as slice_payload_of};
 use hv_bits::BitWriter;
 use hv_cabac::{BinSink, Ctx, CtxTable, Encoder, SliceKind};
 use hv_decision::Group;
-use hv_model::{
-    aligned_bits_are_whole, bytes_append, coded_units_are_valid, sites_are_there, slice_data_ends,
-    slices_end,
-};
+use hv_model::{coded_units_are_valid, slice_data_ends, slices_end};
 use hv_slice::write_slice_header;
+use hv_stream_model::{aligned_bits_are_whole, bytes_append};
+use hv_syntax_model::sites_are_there;
 use hv_types::NoMemory;
 use std::alloc::Global;
 

@@ -5,9 +5,9 @@ use Rattle.std.specs.Int.RustNames.{unsigned_abs}
 use Rattle.std.proofs.lemmas.List.{take_at, drop_at, take-take, drop-take, take_more, take_more_set, length-set, length-map, length-append}
 use Rattle.std.proofs.lemmas.Option.{get_or_from_slice_get}
 use Rattle.hv_types.specs.declared.bins.SliceKind.TheVariants.{P}
-use Rattle.hv_model.specs.Structure.{Kept, ReferenceSet, reference_set, set_size, coded_of, qp_at}
-use Rattle.hv_model.specs.Headers.{SliceHeader, slice, slice_of}
-use Rattle.hv_model.specs.HeaderLaws.{IsAllowedSlice, SlicesOfGroupsAreAllowed, header_of}
+use Rattle.hv_group_model.specs.Structure.{Kept, ReferenceSet, reference_set, set_size, coded_of, qp_at}
+use Rattle.hv_stream_model.specs.Headers.{SliceHeader, slice, slice_of}
+use Rattle.hv_stream_model.specs.HeaderLaws.{IsAllowedSlice, SlicesOfGroupsAreAllowed, header_of}
 use Rattle.hv_decision.specs.declared.row.SetEntry.{SetEntry}
 use Rattle.hv_decision.specs.Sets.{entry_before, entry_after, set_entries}
 use Rattle.hv_slice.specs.Entries.{kept_of, side_of, header_with}

@@ -5,9 +5,9 @@ use Rattle.std.proofs.lemmas.List.{drop_more, drop_all, length-map}
 use mir.Val.{bool_byte}
 use Rattle.hv_bits.specs.Writing.{Written, Appends}
 use Rattle.hv_bits.specs.FieldTables.{TablesJoin}
-use Rattle.hv_model.specs.Fields.{Field, bits_of_fields, ue, u}
-use Rattle.hv_model.specs.Headers.{side_fields, set_fields, bit_of}
-use Rattle.hv_model.specs.HeaderLaws.{Rise}
+use Rattle.hv_stream_model.specs.Fields.{Field, bits_of_fields, ue, u}
+use Rattle.hv_stream_model.specs.Headers.{side_fields, set_fields, bit_of}
+use Rattle.hv_stream_model.specs.HeaderLaws.{Rise}
 use Rattle.hv_decision.specs.declared.row.SetEntry.{SetEntry}
 use Rattle.hv_slice.specs.Entries.{kept_of, side_of, set_of}
 

@@ -2,8 +2,8 @@
 use Rattle.std.specs.Prelude.{ℕ, List, map}
 use Rattle.std.specs.Int.RustNames.{unsigned_abs}
 use Rattle.hv_types.specs.declared.bins.SliceKind.TheVariants.{P}
-use Rattle.hv_model.specs.Structure.{Kept, ReferenceSet}
-use Rattle.hv_model.specs.Headers.{SliceHeader}
+use Rattle.hv_group_model.specs.Structure.{Kept, ReferenceSet}
+use Rattle.hv_stream_model.specs.Headers.{SliceHeader}
 use Rattle.hv_decision.specs.declared.row.SetEntry.{SetEntry}
 
 -- which picture of a set an entry is: how far it is from the picture that keeps it

@@ -4,16 +4,16 @@ ghost use Rattle.std.specs.List.{list_all};
 ghost use Rattle.hv_types.specs.declared.bins.SliceKind.TheVariants.{P};
 ghost use Rattle.hv_bits.specs.Writing.{Appends};
 ghost use Rattle.hv_bits.specs.FieldTables.{field_of, is_codable};
-ghost use Rattle.hv_model.specs.Fields.{bits_of_fields, u, ue, se, aligned};
-ghost use Rattle.hv_model.specs.Headers.{slice, slice_of, idr_slice as idr_slice_of, slice_start, type_code, sao_flags, active_fields, qp_delta};
-ghost use Rattle.hv_model.specs.HeaderLaws.{IsAllowedSlice};
+ghost use Rattle.hv_stream_model.specs.Fields.{bits_of_fields, u, ue, se, aligned};
+ghost use Rattle.hv_stream_model.specs.Headers.{slice, slice_of, idr_slice as idr_slice_of, slice_start, type_code, sao_flags, active_fields, qp_delta};
+ghost use Rattle.hv_stream_model.specs.HeaderLaws.{IsAllowedSlice};
 ghost use Rattle.hv_slice.specs.Entries.{header_with};
 
 use crate::references::{entries, put_set, used_count};
 use hv_bits::Field::{self, Se, U, Ue};
 use hv_bits::{BitWriter, put_fields, tables_join};
 use hv_decision::{Group, SetEntry, Structure};
-use hv_model::slices_of_groups_are_allowed;
+use hv_stream_model::slices_of_groups_are_allowed;
 
 /// Puts the header of a picture's slice, with its byte_alignment (7.3.6.1, 7.3.2.12): that of an
 /// IDR picture for picture 0 of the group, that of a P picture for each other. Pictures are

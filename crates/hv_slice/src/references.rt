@@ -1,10 +1,10 @@
 // The reference set of a slice header (7.3.7), and how many of its pictures are used.
 ghost use Rattle.std.specs.Prelude.{◌≡◌, ◌≤◌, ◌<◌, length, take};
 ghost use Rattle.hv_bits.specs.Writing.{Appends};
-ghost use Rattle.hv_model.specs.Fields.{bits_of_fields};
-ghost use Rattle.hv_model.specs.Headers.{side_fields, set_fields, used_in};
-ghost use Rattle.hv_model.specs.HeaderLaws.{Rise};
-ghost use Rattle.hv_model.specs.Structure.{reference_set, set_size};
+ghost use Rattle.hv_stream_model.specs.Fields.{bits_of_fields};
+ghost use Rattle.hv_stream_model.specs.Headers.{side_fields, set_fields, used_in};
+ghost use Rattle.hv_stream_model.specs.HeaderLaws.{Rise};
+ghost use Rattle.hv_group_model.specs.Structure.{reference_set, set_size};
 ghost use Rattle.hv_decision.specs.Sets.{set_entries};
 ghost use Rattle.hv_slice.specs.Entries.{side_of, set_of};
 

@@ -1,6 +1,6 @@
 //! A million fields, a payload of a megabyte, and the NAL unit of that payload.
 ghost use Rattle.std.specs.Prelude.{◌≡◌, ◌≢◌, ◌^◌, ◌<◌, ◌≤◌, length, vec_len, IfOk};
-ghost use Rattle.hv_model.specs.Units.{last_of};
+ghost use Rattle.hv_stream_model.specs.Units.{last_of};
 
 use hv_bits::write_nal;
 use hv_types::NoMemory;

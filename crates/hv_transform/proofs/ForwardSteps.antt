@@ -7,8 +7,8 @@ use Rattle.std.proofs.lemmas.Nat.{pow_pos}
 use mir.Syntax.{w16}
 use Rattle.hv_tables.specs.TransformMatrix.{transMatrix}
 use Rattle.hv_tables.specs.Tables.{HasEntries}
-use Rattle.hv_model.specs.Blocks.{sum_of, at_place}
-use Rattle.hv_model.specs.Quantisation.{rounded, row_coefficient, coefficient, transformed}
+use Rattle.hv_sample_model.specs.Blocks.{sum_of, at_place}
+use Rattle.hv_sample_model.specs.Quantisation.{rounded, row_coefficient, coefficient, transformed}
 use Rattle.hv_transform.specs.Ranges.{Have16Bits}
 use Rattle.hv_transform.specs.Rows.{row_of, dot_of}
 use Rattle.hv_transform.specs.Passes.{HasFirst, AreWithin, WeighAtMost, table_row, table_by_block}

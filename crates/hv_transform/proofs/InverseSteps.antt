@@ -3,10 +3,10 @@ use Rattle.std.proofs.Common.{◌≡◌, ℕ, ◌+◌, ◌*◌, ◌/◌, ◌%◌
 use Rattle.std.proofs.lemmas.Nat.{pow_pos}
 use Rattle.hv_tables.specs.TransformMatrix.{transMatrix}
 use Rattle.hv_tables.specs.Tables.{HasEntries}
-use Rattle.hv_model.specs.Blocks.{sum_of, at_place}
-use Rattle.hv_model.specs.Clipping.{clip16}
-use Rattle.hv_model.specs.Quantisation.{rounded}
-use Rattle.hv_model.specs.InverseTransform.{column_sample, inverse_sample, inverse_transformed}
+use Rattle.hv_sample_model.specs.Blocks.{sum_of, at_place}
+use Rattle.hv_lemmas.specs.Clipping.{clip16}
+use Rattle.hv_sample_model.specs.Quantisation.{rounded}
+use Rattle.hv_sample_model.specs.InverseTransform.{column_sample, inverse_sample, inverse_transformed}
 use Rattle.hv_transform.specs.Rows.{row_of, dot_of}
 use Rattle.hv_transform.specs.Passes.{HasFirst, table_row, turned, table_by_block, block_by_table}
 use Rattle.hv_transform.proofs.Places.{number_of_row}

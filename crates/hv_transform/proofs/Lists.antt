@@ -5,7 +5,7 @@ use Rattle.std.proofs.lemmas.Bool.Decides.{nat_tests}
 use Rattle.std.proofs.lemmas.List.{get_or-map, length-map, ext_get_or}
 use Rattle.std.proofs.lemmas.List.Elements.{All-from_get_or}
 use mir.Syntax.{w16}
-use Rattle.hv_model.specs.Clipping.{clip16}
+use Rattle.hv_lemmas.specs.Clipping.{clip16}
 use Rattle.hv_transform.specs.Ranges.{Have16Bits}
 use Rattle.hv_transform.specs.Passes.{HasFirst}
 

@@ -8,9 +8,9 @@ use Rattle.std.proofs.lemmas.Nat.{pow_pos}
 use Rattle.std.proofs.Math.Pow.{pow-lt}
 use mir.Syntax.{w16}
 use mir.Val.{to_z, of_z}
-use Rattle.hv_model.specs.Blocks.{sum_of, total_of}
-use Rattle.hv_model.specs.Clipping.{clip16}
-use Rattle.hv_model.specs.Quantisation.{rounded}
+use Rattle.hv_sample_model.specs.Blocks.{sum_of, total_of}
+use Rattle.hv_lemmas.specs.Clipping.{clip16}
+use Rattle.hv_sample_model.specs.Quantisation.{rounded}
 use Rattle.hv_transform.specs.Rows.{dot_of, row_of}
 use Rattle.hv_transform.specs.Passes.{AreWithin}
 use Rattle.hv_transform.proofs.Places.{number_of_row, place_inside}

@@ -5,7 +5,7 @@ use Rattle.std.proofs.lemmas.List.{get_or_append_left, get_or-append_right, ext_
 use Rattle.std.proofs.lemmas.Nat.{pow_pos}
 use Rattle.std.proofs.Math.Nat.{add-mul, div-lt_iff_lt-mul, mod-add-div'}
 use Rattle.hv_types.specs.Samples.{tabulate}
-use Rattle.hv_model.specs.Blocks.{square}
+use Rattle.hv_sample_model.specs.Blocks.{square}
 use Rattle.hv_transform.specs.Passes.{HasFirst}
 use Rattle.hv_transform.proofs.Places.{place_inside, row_of_place, column_of_place}
 

@@ -1,6 +1,6 @@
 -- Sums of products, one product at a time.
 use Rattle.std.proofs.Common.{◌≡◌, ℕ, zero, suc, ◌+◌, ◌<◌, List, ℤ, pos, ◌+ℤ◌, ◌*ℤ◌, refl, ap₂, arith, add-one, slice_index_or}
-use Rattle.hv_model.specs.Blocks.{sum_of}
+use Rattle.hv_sample_model.specs.Blocks.{sum_of}
 use Rattle.hv_transform.specs.Rows.{dot_of}
 
 pub dot_of_none : (entries numbers : List ℤ) → dot_of 0 entries numbers ≡ pos 0

@@ -5,7 +5,7 @@ use Rattle.std.proofs.lemmas.Bool.{leb-true}
 use Rattle.hv_tables.specs.TransformMatrix.{transMatrix}
 use Rattle.hv_tables.specs.Tables.{HasEntries}
 use Rattle.hv_transform.specs.Passes.{WeighAtMost, table_row}
-use Rattle.hv_model.specs.Blocks.{total_of}
+use Rattle.hv_sample_model.specs.Blocks.{total_of}
 
 abbrev all_below : ℕ → (ℕ → Bool) → Bool
 all_below zero p = true

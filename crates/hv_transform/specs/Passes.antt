@@ -2,7 +2,7 @@
 -- column k % n of row k / n.
 use Rattle.std.specs.Prelude.{◌≡◌, ℕ, ◌+◌, ◌*◌, ◌/◌, ◌%◌, ◌<◌, ◌≤◌, List, [], slice_index_or, ℤ, pos}
 use Rattle.std.specs.Int.RustNames.{unsigned_abs}
-use Rattle.hv_model.specs.Blocks.{total_of}
+use Rattle.hv_sample_model.specs.Blocks.{total_of}
 use Rattle.hv_transform.specs.Rows.{row_of, dot_of}
 
 -- the first numbers of a list are f 0, f 1 and so on

@@ -1,6 +1,6 @@
 -- Rows of numbers, and sums of their products.
 use Rattle.std.specs.Prelude.{ℕ, ◌*◌, List, slice_index_or, ℤ, pos, ◌*ℤ◌, take, drop}
-use Rattle.hv_model.specs.Blocks.{sum_of}
+use Rattle.hv_sample_model.specs.Blocks.{sum_of}
 
 -- row y of a block of n columns
 abbrev pub row_of : ℕ → List ℤ → ℕ → List ℤ

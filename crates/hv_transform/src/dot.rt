@@ -1,7 +1,7 @@
 //! Dot products of a row of the transform matrix and a row of numbers.
 ghost use Rattle.std.specs.Prelude.{◌≡◌, ◌+◌, ◌*◌, ◌^◌, ◌<◌, ◌≤◌, ◌+ℤ◌, ◌*ℤ◌};
 ghost use Rattle.std.specs.Int.RustNames.{unsigned_abs};
-ghost use Rattle.hv_model.specs.Quantisation.{rounded};
+ghost use Rattle.hv_sample_model.specs.Quantisation.{rounded};
 ghost use Rattle.hv_transform.specs.Rows.{dot_of};
 
 /// The product of an entry and a number.

@@ -2,7 +2,7 @@
 ghost use Rattle.std.specs.Prelude.{◌≡◌, ◌+◌, ◌*◌, ◌^◌, ◌<◌, ◌≤◌, length};
 ghost use Rattle.hv_tables.specs.Tables.{HasEntries};
 ghost use Rattle.hv_tables.specs.TransformMatrix.{transMatrix};
-ghost use Rattle.hv_model.specs.Quantisation.{rounded, transformed};
+ghost use Rattle.hv_sample_model.specs.Quantisation.{rounded, transformed};
 ghost use Rattle.hv_transform.specs.Passes.{HasFirst, AreWithin, WeighAtMost, table_by_block};
 ghost use Rattle.hv_transform.specs.Ranges.{Have16Bits, AreDifferences};
 

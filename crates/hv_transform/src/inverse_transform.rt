@@ -2,9 +2,9 @@
 ghost use Rattle.std.specs.Prelude.{◌≡◌, ◌+◌, ◌*◌, ◌^◌, ◌<◌, ◌≤◌, ℕ, length};
 ghost use Rattle.hv_tables.specs.Tables.{HasEntries};
 ghost use Rattle.hv_tables.specs.TransformMatrix.{transMatrix};
-ghost use Rattle.hv_model.specs.Clipping.{clip16};
-ghost use Rattle.hv_model.specs.InverseTransform.{inverse_transformed};
-ghost use Rattle.hv_model.specs.Quantisation.{rounded};
+ghost use Rattle.hv_lemmas.specs.Clipping.{clip16};
+ghost use Rattle.hv_sample_model.specs.InverseTransform.{inverse_transformed};
+ghost use Rattle.hv_sample_model.specs.Quantisation.{rounded};
 ghost use Rattle.hv_transform.specs.Passes.{HasFirst, AreWithin, WeighAtMost, turned, table_by_block, block_by_table};
 ghost use Rattle.hv_transform.specs.Ranges.{Have16Bits};
 

@@ -1,7 +1,7 @@
 //! What two calls after each other give.
 ghost use Rattle.std.specs.Prelude.{◌≡◌, ℕ, ℤ, Bool, List, map};
-ghost use Rattle.hv_model.specs.InverseTransform.{scaled, inverse_transformed, residual};
-ghost use Rattle.hv_model.specs.Quantisation.{transformed, quantised, levels};
+ghost use Rattle.hv_sample_model.specs.InverseTransform.{scaled, inverse_transformed, residual};
+ghost use Rattle.hv_sample_model.specs.Quantisation.{transformed, quantised, levels};
 
 /// `forward` and then `quantise` give the levels of a block of residuals, and `scale` and then
 /// `inverse` the residual of a block of levels (8.6.2).

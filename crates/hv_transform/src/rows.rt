@@ -1,6 +1,6 @@
 //! Rows of blocks, and clipping.
 ghost use Rattle.std.specs.Prelude.{◌≡◌, ◌+◌, ◌*◌, ◌<◌, ◌≤◌, length};
-ghost use Rattle.hv_model.specs.Clipping.{clip16};
+ghost use Rattle.hv_lemmas.specs.Clipping.{clip16};
 ghost use Rattle.hv_transform.specs.Rows.{row_of};
 
 /// Row y of a block of N columns.

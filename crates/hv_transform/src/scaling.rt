@@ -1,9 +1,9 @@
 //! Scaling (8.6.3), and the encoder's quantisation, number by number.
 ghost use Rattle.std.specs.Prelude.{◌≡◌, ◌+◌, ◌-◌, ◌*◌, ◌/◌, ◌^◌, ◌<◌, ◌≤◌, length, map, pos, ◌*ℤ◌};
 ghost use Rattle.std.specs.Int.RustNames.{unsigned_abs};
-ghost use Rattle.hv_model.specs.Clipping.{clip16};
-ghost use Rattle.hv_model.specs.InverseTransform.{scaled};
-ghost use Rattle.hv_model.specs.Quantisation.{quantised, rounded, with_sign_of, offset_of_kind};
+ghost use Rattle.hv_lemmas.specs.Clipping.{clip16};
+ghost use Rattle.hv_sample_model.specs.InverseTransform.{scaled};
+ghost use Rattle.hv_sample_model.specs.Quantisation.{quantised, rounded, with_sign_of, offset_of_kind};
 ghost use Rattle.hv_tables.specs.Quantisers.{levelScale};
 ghost use Rattle.hv_transform.specs.Ranges.{Have16Bits};
 

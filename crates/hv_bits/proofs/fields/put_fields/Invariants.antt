@@ -2,7 +2,7 @@
 use Rattle.std.proofs.Common.{take, map, ◌≡◌, true}
 use Rattle.std.specs.List.{list_all}
 use Rattle.hv_bits.specs.Writing.{Appends}
-use Rattle.hv_model.specs.Fields.{bits_of_fields}
+use Rattle.hv_stream_model.specs.Fields.{bits_of_fields}
 use Rattle.hv_bits.specs.FieldTables.{field_of, is_codable}
 use Rattle.hv_bits.proofs.fields.put_fields.Given as goal
 

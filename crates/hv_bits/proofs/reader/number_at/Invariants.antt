@@ -1,5 +1,5 @@
 use Rattle.std.proofs.Common.{◌≡◌, take}
-use Rattle.hv_model.specs.Bits.{bits_of, number_of}
+use Rattle.hv_stream_model.specs.Bits.{bits_of, number_of}
 use Rattle.hv_bits.proofs.reader.number_at.Given as goal
 
 abbrev pub invariant-loop-byte : goal.invariant-loop-byte

@@ -1,5 +1,5 @@
 use Rattle.std.proofs.Common.{◌*◌, ◌^◌, ◌≤◌, ℕ, sym, subst}
-use Rattle.hv_model.proofs.Intervals.{shift_fits}
+use Rattle.hv_entropy_model.proofs.Intervals.{shift_fits}
 use Rattle.hv_cabac.proofs.Bounds.{leading_shift}
 use Rattle.hv_cabac.proofs.register.doublings.Goals as goal
 

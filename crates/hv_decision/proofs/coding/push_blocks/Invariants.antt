@@ -1,5 +1,5 @@
 use Rattle.std.proofs.Common.{◌≡◌, map, ◌++◌, ◌*◌, ◌^◌}
-use Rattle.hv_model.specs.Structure.{blocks, anchors}
+use Rattle.hv_group_model.specs.Structure.{blocks, anchors}
 use Rattle.hv_decision.specs.Coding.{coded_as}
 use Rattle.hv_decision.proofs.CodingLaws.{anchors_from}
 use Rattle.hv_decision.proofs.coding.push_blocks.Given as goal

@@ -1,5 +1,5 @@
 use Rattle.std.proofs.Common.{◌≡◌, map, drop, length}
-use Rattle.hv_model.specs.Structure.{rising}
+use Rattle.hv_group_model.specs.Structure.{rising}
 use Rattle.hv_decision.specs.Coding.{coded_as}
 use Rattle.hv_decision.proofs.Lives.{life_from}
 use Rattle.hv_decision.proofs.sets.lives.Given as goal

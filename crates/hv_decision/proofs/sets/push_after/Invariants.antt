@@ -1,5 +1,5 @@
 use Rattle.std.proofs.Common.{◌≡◌, map, ◌++◌, ◌-◌, length}
-use Rattle.hv_model.specs.Structure.{kept_among, place_in, rising, set_in}
+use Rattle.hv_group_model.specs.Structure.{kept_among, place_in, rising, set_in}
 use Rattle.hv_decision.specs.Coding.{coded_as}
 use Rattle.hv_decision.specs.Sets.{entry_after}
 use Rattle.hv_decision.proofs.sets.push_after.Given as goal

@@ -1,5 +1,5 @@
 use Rattle.std.proofs.Common.{◌≡◌, map, length}
-use Rattle.hv_model.specs.Structure.{rising}
+use Rattle.hv_group_model.specs.Structure.{rising}
 use Rattle.hv_decision.specs.Coding.{coded_as}
 use Rattle.hv_decision.specs.Sets.{row_in, row_as}
 use Rattle.hv_decision.proofs.sets.rows.Given as goal

@@ -1,6 +1,6 @@
 use Rattle.std.proofs.Common.{true}
 use Rattle.hv_intra.specs.Blocks.{IsRow}
-use Rattle.hv_model.specs.IntraPrediction.{dc}
+use Rattle.hv_sample_model.specs.IntraPrediction.{dc}
 use Rattle.hv_intra.proofs.dc.fill_upper_row.Given as goal
 
 abbrev pub invariant-loop-x : goal.invariant-loop-x

@@ -1,6 +1,6 @@
 use Rattle.std.proofs.Common.{◌≡◌, ◌≤◌, ◌+◌, ◌*◌}
-use Rattle.hv_model.specs.IntraPrediction.{left, above}
-use Rattle.hv_model.specs.Blocks.{total_of}
+use Rattle.hv_sample_model.specs.IntraPrediction.{left, above}
+use Rattle.hv_sample_model.specs.Blocks.{total_of}
 use Rattle.hv_intra.proofs.dc.mean.Given as goal
 
 abbrev pub invariant-loop-i : goal.invariant-loop-i

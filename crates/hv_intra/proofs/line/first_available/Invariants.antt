@@ -1,5 +1,5 @@
 use Rattle.std.proofs.Common.{◌≡◌, drop}
-use Rattle.hv_model.specs.IntraPrediction.{first_available}
+use Rattle.hv_sample_model.specs.IntraPrediction.{first_available}
 use Rattle.hv_intra.proofs.line.first_available.Given as goal
 
 abbrev pub invariant-loop-i : goal.invariant-loop-i

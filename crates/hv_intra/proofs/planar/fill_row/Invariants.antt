@@ -1,5 +1,5 @@
 use Rattle.hv_intra.specs.Blocks.{IsRow}
-use Rattle.hv_model.specs.IntraPrediction.{planar}
+use Rattle.hv_sample_model.specs.IntraPrediction.{planar}
 use Rattle.hv_intra.proofs.planar.fill_row.Given as goal
 
 abbrev pub invariant-loop-x : goal.invariant-loop-x

@@ -1,5 +1,5 @@
 use Rattle.std.proofs.Common.{◌^◌, arith}
-use Rattle.hv_model.specs.IntraPrediction.{planar}
+use Rattle.hv_sample_model.specs.IntraPrediction.{planar}
 use Rattle.hv_intra.proofs.Rows.{rows_written}
 use Rattle.hv_intra.proofs.planar.predict_planar.Goals as goal
 

@@ -1,6 +1,6 @@
 use Rattle.std.proofs.Common.{◌^◌}
 use Rattle.hv_intra.specs.Blocks.{HasRows}
-use Rattle.hv_model.specs.IntraPrediction.{planar}
+use Rattle.hv_sample_model.specs.IntraPrediction.{planar}
 use Rattle.hv_intra.proofs.planar.predict_planar.Given as goal
 
 abbrev pub invariant-loop-y : goal.invariant-loop-y

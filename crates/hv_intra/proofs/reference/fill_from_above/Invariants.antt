@@ -1,5 +1,5 @@
 use Rattle.std.proofs.Common.{◌≡◌, ◌<◌, ◌≤◌, ◌+◌, ◌-◌, ◌*◌, ◌^◌, ℕ, get_or}
-use Rattle.hv_model.specs.IntraPrediction.{left, above}
+use Rattle.hv_sample_model.specs.IntraPrediction.{left, above}
 use Rattle.hv_intra.specs.References.{projected}
 use Rattle.hv_intra.proofs.reference.fill_from_above.Given as goal
 

@@ -1,6 +1,6 @@
 use Rattle.std.proofs.Common.{◌^◌, true}
 use Rattle.hv_intra.specs.Blocks.{HasRows}
-use Rattle.hv_model.specs.IntraPrediction.{angular}
+use Rattle.hv_sample_model.specs.IntraPrediction.{angular}
 use Rattle.hv_intra.proofs.straight.predict_vertical.Given as goal
 
 abbrev pub invariant-loop-y : goal.invariant-loop-y

@@ -1,8 +1,8 @@
 -- The sides, and the window behind them.
 use Rattle.std.proofs.Common.{subst, sym, ap₂, ◌-◌, ◌/◌, [], ◌∷◌}
 use Rattle.hv_bits.specs.Writing.{Appends}
-use Rattle.hv_model.specs.Fields.{bits_of_fields, ue}
-use Rattle.hv_model.specs.Headers.{size_of, window}
+use Rattle.hv_stream_model.specs.Fields.{bits_of_fields, ue}
+use Rattle.hv_stream_model.specs.Headers.{size_of, window}
 use Rattle.hv_params.proofs.sets.put_size.Goals as goal
 
 pub returns : goal.returns

@@ -2,8 +2,8 @@
 use Rattle.std.proofs.Common.{map, subst, ap, ◌∙◌, ◌++◌}
 use Rattle.hv_bits.specs.Writing.{Appends}
 use Rattle.hv_bits.specs.FieldTables.{field_of}
-use Rattle.hv_model.specs.Fields.{bits_of_fields}
-use Rattle.hv_model.specs.Headers.{size_of, size_fields, ordering}
+use Rattle.hv_stream_model.specs.Fields.{bits_of_fields}
+use Rattle.hv_stream_model.specs.Headers.{size_of, size_fields, ordering}
 use Rattle.hv_params.specs.declared.tables.TheConstants.{SPS_START, SPS_FORMAT, SPS_DEPTHS, SPS_END, PROFILE_TIER_LEVEL}
 use Rattle.hv_params.proofs.sets.put_sps.Goals as goal
 

@@ -2,7 +2,7 @@
 use Rattle.std.proofs.Common.{map, subst, ◌++◌}
 use Rattle.hv_bits.specs.Writing.{Appends}
 use Rattle.hv_bits.specs.FieldTables.{field_of}
-use Rattle.hv_model.specs.Fields.{bits_of_fields}
+use Rattle.hv_stream_model.specs.Fields.{bits_of_fields}
 use Rattle.hv_params.specs.declared.tables.TheConstants.{VPS_START, VPS_END, PROFILE_TIER_LEVEL}
 use Rattle.hv_params.proofs.sets.put_vps.Goals as goal
 

@@ -1,5 +1,5 @@
 use Rattle.std.proofs.Common.{◌≡◌, ◌+◌, ◌*◌, ◌^◌, length}
-use Rattle.hv_model.specs.Bits.{number_of}
+use Rattle.hv_stream_model.specs.Bits.{number_of}
 use Rattle.hv_plain.proofs.NumberLaws.{AreBits}
 use Rattle.hv_plain.proofs.digits.double.Given as goal
 

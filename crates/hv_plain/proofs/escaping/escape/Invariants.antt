@@ -1,5 +1,5 @@
 use Rattle.std.proofs.Common.{◌≡◌, ◌≤◌, ◌++◌, drop}
-use Rattle.hv_model.specs.Units.{escape, escape_after}
+use Rattle.hv_stream_model.specs.Units.{escape, escape_after}
 use Rattle.hv_plain.proofs.escaping.escape.Given as goal
 
 abbrev pub invariant-loop-byte : goal.invariant-loop-byte

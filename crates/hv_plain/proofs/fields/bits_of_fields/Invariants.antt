@@ -1,5 +1,5 @@
 use Rattle.std.proofs.Common.{◌≡◌, ◌++◌, drop, map}
-use Rattle.hv_model.specs.Fields.{bits_of_fields}
+use Rattle.hv_stream_model.specs.Fields.{bits_of_fields}
 use Rattle.hv_plain.specs.PlainFields.{field_of}
 use Rattle.hv_plain.proofs.fields.bits_of_fields.Given as goal
 

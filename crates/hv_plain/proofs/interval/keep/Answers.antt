@@ -1,5 +1,5 @@
 use Rattle.std.proofs.Common.{◌≡◌, ℕ, ◌+◌, ◌-◌, ◌*◌, ◌^◌, ◌≤◌, length, arith, subst, sym}
-use Rattle.hv_model.specs.Bits.{number_of}
+use Rattle.hv_stream_model.specs.Bits.{number_of}
 use Rattle.hv_plain.proofs.NumberLaws.{part_below, below_power}
 use Rattle.hv_plain.proofs.interval.keep.Goals as goal
 

@@ -1,6 +1,6 @@
 use Rattle.std.proofs.Common.{◌≡◌, ◌≤◌, map, take, ap, ◌∙◌, ℕ, List, length, arith}
 use Rattle.std.proofs.lemmas.List.{take_all}
-use Rattle.hv_model.specs.Contexts.{first_variable, first_variables}
+use Rattle.hv_entropy_model.specs.Contexts.{first_variable, first_variables}
 use Rattle.hv_plain.proofs.variables.first_variables.Goals as goal
 
 pub returns : goal.returns

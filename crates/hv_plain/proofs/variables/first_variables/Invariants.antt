@@ -1,5 +1,5 @@
 use Rattle.std.proofs.Common.{◌≡◌, map, take}
-use Rattle.hv_model.specs.Contexts.{first_variable}
+use Rattle.hv_entropy_model.specs.Contexts.{first_variable}
 use Rattle.hv_plain.proofs.variables.first_variables.Given as goal
 
 abbrev pub invariant-loop-value : goal.invariant-loop-value

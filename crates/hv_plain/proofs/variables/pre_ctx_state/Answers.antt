@@ -2,7 +2,7 @@ use Rattle.std.proofs.Common.{◌≡◌, ap, ◌∙◌, arith, nat_abs, pos, rul
 use Rattle.std.proofs.lemmas.Int.{ints}
 use mir.Syntax.{w32}
 use mir.Val.{to_z, of_z, SFits}
-use Rattle.hv_model.specs.Clipping.{clip3}
+use Rattle.hv_lemmas.specs.Clipping.{clip3}
 use Rattle.hv_plain.proofs.SignedLaws.{passed}
 use Rattle.hv_plain.proofs.variables.pre_ctx_state.Goals as goal
 

@@ -1,7 +1,7 @@
 -- The encoder stands for the bins of all blocks, of which the last one ends the slice.
 use Rattle.std.proofs.Common.{[], arith}
 use Rattle.hv_types.specs.declared.bins.SliceKind.TheVariants.{I}
-use Rattle.hv_model.specs.Bins.{sites, slice_bins}
+use Rattle.hv_syntax_model.specs.Bins.{sites, slice_bins}
 use Rattle.hv_model.specs.Encoding.{coded_units}
 use Rattle.hv_run.proofs.slice.slice_data.Goals as goal
 

@@ -1,8 +1,8 @@
 use Rattle.std.proofs.Common.{subst, sym, ap, ◌∙◌}
 use Rattle.hv_bits.specs.Writing.{Appends}
-use Rattle.hv_model.specs.Fields.{bits_of_fields}
-use Rattle.hv_model.specs.Headers.{slice}
-use Rattle.hv_model.specs.HeaderLaws.{IsAllowedSlice}
+use Rattle.hv_stream_model.specs.Fields.{bits_of_fields}
+use Rattle.hv_stream_model.specs.Headers.{slice}
+use Rattle.hv_stream_model.specs.HeaderLaws.{IsAllowedSlice}
 use Rattle.hv_slice.proofs.SetEntries.{same_header, other_header}
 use Rattle.hv_slice.proofs.header.put_slice.Goals as goal
 

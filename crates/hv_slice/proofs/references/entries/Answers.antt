@@ -1,5 +1,5 @@
 use Rattle.std.proofs.Common.{arith}
-use Rattle.hv_model.specs.Structure.{reference_set}
+use Rattle.hv_group_model.specs.Structure.{reference_set}
 use Rattle.hv_decision.specs.Sets.{set_entries}
 use Rattle.hv_slice.proofs.SetEntries.{length-set_entries, one_entry}
 use Rattle.hv_slice.proofs.references.entries.Goals as goal

@@ -1,6 +1,6 @@
 -- The entries so far.
 use Rattle.std.proofs.Common.{◌≡◌, take, length}
-use Rattle.hv_model.specs.Structure.{reference_set}
+use Rattle.hv_group_model.specs.Structure.{reference_set}
 use Rattle.hv_decision.specs.Sets.{set_entries}
 use Rattle.hv_slice.proofs.references.entries.Given as goal
 

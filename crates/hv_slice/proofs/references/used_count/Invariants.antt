@@ -1,6 +1,6 @@
 -- The used ones so far, and those that follow, are all.
 use Rattle.std.proofs.Common.{◌≡◌, ◌+◌, ◌≤◌, drop}
-use Rattle.hv_model.specs.Headers.{used_in}
+use Rattle.hv_stream_model.specs.Headers.{used_in}
 use Rattle.hv_slice.specs.Entries.{side_of}
 use Rattle.hv_slice.proofs.references.used_count.Given as goal
 

@@ -2,7 +2,7 @@ use Rattle.std.proofs.Common.{◌≤◌, arith, rules, w32}
 use Rattle.std.proofs.lemmas.Int.{to_z-of_z, fits_signed_from_abs}
 use Rattle.std.specs.Int.RustNames.{FitsSigned, unsigned_abs}
 use mir.Syntax.{w16}
-use Rattle.hv_model.specs.Quantisation.{rounded}
+use Rattle.hv_sample_model.specs.Quantisation.{rounded}
 use Rattle.hv_transform.specs.Rows.{dot_of}
 use Rattle.hv_transform.proofs.Numbers.{size_of_rounded}
 use Rattle.hv_transform.proofs.dot.narrow_mean.Goals as goal

@@ -1,7 +1,7 @@
 use Rattle.std.proofs.Common.{◌≡◌, ℕ, ◌+◌, ◌-◌, ◌*◌, ◌^◌, ◌≤◌, pos, subst, arith}
 use Rattle.std.specs.Int.RustNames.{unsigned_abs}
 use Rattle.std.proofs.lemmas.List.Elements.{All-get_or}
-use Rattle.hv_model.specs.Quantisation.{rounded}
+use Rattle.hv_sample_model.specs.Quantisation.{rounded}
 use Rattle.hv_transform.specs.Passes.{HasFirst, AreWithin, table_by_block}
 use Rattle.hv_transform.proofs.ForwardSteps.{forward_steps, pass_within, Have16Bits-within}
 use Rattle.hv_transform.proofs.Places.{places_few}

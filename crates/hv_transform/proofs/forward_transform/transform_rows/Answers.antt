@@ -2,7 +2,7 @@ use Rattle.std.proofs.Common.{ℕ, List, ℤ, ◌*◌, ◌≤◌, ◌∙◌, ap,
 use Rattle.std.proofs.lemmas.Int.{to_z-of_z}
 use Rattle.std.specs.Int.RustNames.{FitsSigned, unsigned_abs}
 use mir.Syntax.{w16}
-use Rattle.hv_model.specs.Quantisation.{rounded}
+use Rattle.hv_sample_model.specs.Quantisation.{rounded}
 use Rattle.hv_transform.specs.Rows.{dot_of, row_of}
 use Rattle.hv_transform.specs.Passes.{table_row}
 use Rattle.hv_transform.proofs.Numbers.{size_of_row_dot}

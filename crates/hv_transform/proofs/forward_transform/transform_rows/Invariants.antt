@@ -1,5 +1,5 @@
 use Rattle.std.proofs.Common.{◌+◌, ◌*◌}
-use Rattle.hv_model.specs.Quantisation.{rounded}
+use Rattle.hv_sample_model.specs.Quantisation.{rounded}
 use Rattle.hv_transform.specs.Passes.{HasFirst, table_by_block}
 use Rattle.hv_transform.proofs.forward_transform.transform_rows.Given as goal
 

@@ -2,7 +2,7 @@ use Rattle.std.proofs.Common.{◌*◌, arith}
 use Rattle.hv_transform.proofs.InverseSteps.{inverse_steps}
 use Rattle.hv_transform.proofs.Sizes.{size_between}
 use Rattle.hv_transform.specs.Passes.{AreWithin, table_by_block}
-use Rattle.hv_model.specs.Quantisation.{rounded}
+use Rattle.hv_sample_model.specs.Quantisation.{rounded}
 use Rattle.hv_transform.proofs.Numbers.{size_of_clipped}
 use Rattle.hv_transform.proofs.Places.{places_few}
 use Rattle.hv_transform.proofs.Weights.{columns_are_light}

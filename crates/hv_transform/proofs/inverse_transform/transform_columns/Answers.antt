@@ -2,8 +2,8 @@ use Rattle.std.proofs.Common.{ℕ, ℤ, ◌∙◌, ap, arith, rules, w32}
 use Rattle.std.proofs.lemmas.Int.{to_z-of_z}
 use Rattle.std.specs.Int.RustNames.{FitsSigned}
 use mir.Syntax.{w16}
-use Rattle.hv_model.specs.Clipping.{clip16}
-use Rattle.hv_model.specs.Quantisation.{rounded}
+use Rattle.hv_lemmas.specs.Clipping.{clip16}
+use Rattle.hv_sample_model.specs.Quantisation.{rounded}
 use Rattle.hv_transform.specs.Rows.{dot_of, row_of}
 use Rattle.hv_transform.specs.Passes.{table_row}
 use Rattle.hv_transform.proofs.Places.{HasFirst-place}

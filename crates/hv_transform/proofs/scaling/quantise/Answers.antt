@@ -2,8 +2,8 @@ use Rattle.std.proofs.Common.{◌≡◌, ℕ, ◌+◌, ◌-◌, ◌*◌, ◌/◌
 use Rattle.std.proofs.lemmas.Int.{to_z-of_z}
 use Rattle.std.specs.Int.RustNames.{FitsSigned, unsigned_abs}
 use mir.Syntax.{w16}
-use Rattle.hv_model.specs.Clipping.{clip16}
-use Rattle.hv_model.specs.Quantisation.{quantised, with_sign_of, offset_of_kind, quantisation_shift}
+use Rattle.hv_lemmas.specs.Clipping.{clip16}
+use Rattle.hv_sample_model.specs.Quantisation.{quantised, with_sign_of, offset_of_kind, quantisation_shift}
 use Rattle.hv_tables.specs.Quantisers.{quantisation_factor}
 use Rattle.hv_transform.proofs.Lists.{map_is}
 use Rattle.hv_transform.proofs.Places.{HasFirst-set}

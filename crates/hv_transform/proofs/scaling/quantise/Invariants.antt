@@ -1,5 +1,5 @@
 use Rattle.std.proofs.Common.{pos, slice_index_or}
-use Rattle.hv_model.specs.Quantisation.{quantised}
+use Rattle.hv_sample_model.specs.Quantisation.{quantised}
 use Rattle.hv_transform.specs.Passes.{HasFirst}
 use Rattle.hv_transform.proofs.scaling.quantise.Given as goal
 

@@ -2,9 +2,9 @@ use Rattle.std.proofs.Common.{◌≡◌, ℕ, ◌+◌, ◌*◌, ◌/◌, ◌^◌
 use Rattle.std.proofs.lemmas.Int.{to_z-of_z}
 use Rattle.std.specs.Int.RustNames.{FitsSigned}
 use mir.Syntax.{w16}
-use Rattle.hv_model.specs.Clipping.{clip16}
-use Rattle.hv_model.specs.Quantisation.{rounded}
-use Rattle.hv_model.specs.InverseTransform.{scaled}
+use Rattle.hv_lemmas.specs.Clipping.{clip16}
+use Rattle.hv_sample_model.specs.Quantisation.{rounded}
+use Rattle.hv_sample_model.specs.InverseTransform.{scaled}
 use Rattle.hv_tables.specs.Quantisers.{levelScale}
 use Rattle.hv_transform.proofs.Lists.{map_is, Have16Bits-clipped}
 use Rattle.hv_transform.proofs.Places.{HasFirst-set}

@@ -2,8 +2,8 @@ use Rattle.std.proofs.Common.{◌∙◌, pos, ◌*ℤ◌, ap, rules, w32, w64}
 use Rattle.std.proofs.lemmas.Int.{to_z-of_z}
 use Rattle.std.specs.Int.RustNames.{FitsSigned}
 use mir.Syntax.{w16}
-use Rattle.hv_model.specs.Clipping.{clip16}
-use Rattle.hv_model.specs.Quantisation.{rounded}
+use Rattle.hv_lemmas.specs.Clipping.{clip16}
+use Rattle.hv_sample_model.specs.Quantisation.{rounded}
 use Rattle.hv_transform.proofs.scaling.scaled_by.Goals as goal
 
 pub returns : goal.returns

@@ -1,6 +1,6 @@
 use Rattle.std.proofs.Common.{◌≡◌, ◌<◌, ◌++◌}
-use Rattle.hv_model.specs.Bits.{digits, bits_of}
-use Rattle.hv_model.specs.BitLaws.{AreBytes}
+use Rattle.hv_stream_model.specs.Bits.{digits, bits_of}
+use Rattle.hv_stream_model.specs.BitLaws.{AreBytes}
 use Rattle.hv_bits.proofs.writer.BitWriter.finish.Given as goal
 
 abbrev pub invariant-loop-waiting : goal.invariant-loop-waiting

@@ -1,6 +1,6 @@
 use Rattle.std.proofs.Common.{◌≡◌, length, take}
 use Rattle.std.specs.Prelude.{map}
-use Rattle.hv_model.specs.Contexts.{first_variable}
+use Rattle.hv_entropy_model.specs.Contexts.{first_variable}
 use Rattle.hv_cabac.specs.Variables.{variable_of}
 use Rattle.hv_cabac.proofs.variables.Variables.first.Given as goal
 

@@ -1,5 +1,5 @@
 use Rattle.std.proofs.Common.{◌≡◌, ◌++◌, length, take, drop}
-use Rattle.hv_model.specs.IntraPrediction.{filled_from, substituted}
+use Rattle.hv_sample_model.specs.IntraPrediction.{filled_from, substituted}
 use Rattle.hv_intra.proofs.line.Line.of.Given as goal
 
 -- so many are filled, and the rest goes on from the last of them

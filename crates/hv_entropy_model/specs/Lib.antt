@@ -1,0 +1,6 @@
+pub mod Contexts
+pub mod CodeWord
+pub mod Oracle
+pub mod ReadingBack
+pub mod IntervalLaws
+pub mod TableLaws

@@ -1,0 +1,12 @@
+//! Context variables, the arithmetic decoder, and the code word of a list of bins (9.3) as definitions.
+//! They stand in `specs/`; the functions here are empty, and each carries a law of the definitions as
+//! its contract.
+#![tactic(auto)]
+
+mod context_tables;
+mod interval_laws;
+mod reading_back;
+
+pub use context_tables::{context_tables_law, lps_width_law};
+pub use interval_laws::interval_law;
+pub use reading_back::{code_word_is_read_back, scripts_read_code_words, scripts_read_listed};

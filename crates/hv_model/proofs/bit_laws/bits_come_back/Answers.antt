@@ -1,5 +1,0 @@
-use Rattle.hv_model.proofs.BitLaws.{bits_of-bytes_of}
-use Rattle.hv_model.proofs.bit_laws.bits_come_back.Goals as goal
-
-pub returns : goal.returns
-returns c = bits_of-bytes_of

@@ -1,5 +1,0 @@
-use Rattle.hv_model.proofs.BitLaws.{bytes_of-append}
-use Rattle.hv_model.proofs.bit_laws.bytes_append.Goals as goal
-
-pub returns : goal.returns
-returns c = bytes_of-append

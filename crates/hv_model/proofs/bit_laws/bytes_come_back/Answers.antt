@@ -1,5 +1,0 @@
-use Rattle.hv_model.proofs.BitLaws.{bytes_of-bits_of}
-use Rattle.hv_model.proofs.bit_laws.bytes_come_back.Goals as goal
-
-pub returns : goal.returns
-returns c = bytes_of-bits_of

@@ -1,5 +1,0 @@
-use Rattle.hv_model.proofs.FieldLaws.{length-aligned}
-use Rattle.hv_model.proofs.field_laws.aligned_bits_are_whole.Goals as goal
-
-pub returns : goal.returns
-returns c = length-aligned

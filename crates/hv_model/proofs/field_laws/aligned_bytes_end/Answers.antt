@@ -1,5 +1,0 @@
-use Rattle.hv_model.proofs.FieldLaws.{last_of-aligned}
-use Rattle.hv_model.proofs.field_laws.aligned_bytes_end.Goals as goal
-
-pub returns : goal.returns
-returns c = last_of-aligned

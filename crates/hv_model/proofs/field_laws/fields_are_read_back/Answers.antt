@@ -1,5 +1,0 @@
-use Rattle.hv_model.proofs.FieldLaws.{fields_read_back}
-use Rattle.hv_model.proofs.field_laws.fields_are_read_back.Goals as goal
-
-pub returns : goal.returns
-returns g c = fields_read_back _

@@ -1,5 +1,0 @@
-use Rattle.hv_model.proofs.SliceHeaderLaws.{codable_slice}
-use Rattle.hv_model.proofs.header_laws.other_slices_are_codable.Goals as goal
-
-pub returns : goal.returns
-returns c = codable_slice

@@ -1,5 +1,0 @@
-use Rattle.hv_model.proofs.SliceHeaderLaws.{reads_slice}
-use Rattle.hv_model.proofs.header_laws.other_slices_are_read.Goals as goal
-
-pub returns : goal.returns
-returns c = reads_slice

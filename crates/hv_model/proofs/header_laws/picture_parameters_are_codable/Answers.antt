@@ -1,5 +1,0 @@
-use Rattle.hv_model.proofs.HeaderLaws.{codable_pps}
-use Rattle.hv_model.proofs.header_laws.picture_parameters_are_codable.Goals as goal
-
-pub returns : goal.returns
-returns c = codable_pps

@@ -1,5 +1,0 @@
-use Rattle.hv_model.proofs.HeaderLaws.{reads_sps}
-use Rattle.hv_model.proofs.header_laws.sequence_parameters_are_read.Goals as goal
-
-pub returns : goal.returns
-returns c = reads_sps

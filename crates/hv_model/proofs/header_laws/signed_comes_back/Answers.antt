@@ -1,5 +1,0 @@
-use Rattle.hv_model.proofs.HeaderLaws.{signed_back}
-use Rattle.hv_model.proofs.header_laws.signed_comes_back.Goals as goal
-
-pub returns : goal.returns
-returns c = signed_back

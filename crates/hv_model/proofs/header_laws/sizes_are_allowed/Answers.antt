@@ -1,5 +1,0 @@
-use Rattle.hv_model.proofs.HeaderLaws.{sizes_allowed}
-use Rattle.hv_model.proofs.header_laws.sizes_are_allowed.Goals as goal
-
-pub returns : goal.returns
-returns c = sizes_allowed

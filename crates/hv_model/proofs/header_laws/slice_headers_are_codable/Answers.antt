@@ -1,5 +1,0 @@
-use Rattle.hv_model.proofs.HeaderLaws.{codable_idr_slice}
-use Rattle.hv_model.proofs.header_laws.slice_headers_are_codable.Goals as goal
-
-pub returns : goal.returns
-returns c = codable_idr_slice

@@ -1,5 +1,0 @@
-use Rattle.hv_model.proofs.SliceStructures.{slices_allowed}
-use Rattle.hv_model.proofs.header_laws.slices_of_groups_are_allowed.Goals as goal
-
-pub returns : goal.returns
-returns c = slices_allowed

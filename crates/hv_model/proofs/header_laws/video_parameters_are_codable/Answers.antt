@@ -1,5 +1,0 @@
-use Rattle.hv_model.proofs.HeaderLaws.{codable_vps}
-use Rattle.hv_model.proofs.header_laws.video_parameters_are_codable.Goals as goal
-
-pub returns : goal.returns
-returns c = codable_vps

@@ -1,5 +1,0 @@
-use Rattle.hv_model.proofs.HeaderLaws.{reads_vps}
-use Rattle.hv_model.proofs.header_laws.video_parameters_are_read.Goals as goal
-
-pub returns : goal.returns
-returns c = reads_vps

@@ -1,5 +1,0 @@
-use Rattle.hv_model.proofs.OracleLaws.{script_reads_listed}
-use Rattle.hv_model.proofs.reading_back.scripts_read_listed.Goals as goal
-
-pub returns : goal.returns
-returns g c = script_reads_listed _

@@ -1,5 +1,0 @@
-use Rattle.hv_model.proofs.StreamLaws.{found_stream}
-use Rattle.hv_model.proofs.stream_laws.found_units_make_the_stream.Goals as goal
-
-pub returns : goal.returns
-returns c = found_stream

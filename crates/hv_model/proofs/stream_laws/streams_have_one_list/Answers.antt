@@ -1,5 +1,0 @@
-use Rattle.hv_model.proofs.StreamLaws.{one_list}
-use Rattle.hv_model.proofs.stream_laws.streams_have_one_list.Goals as goal
-
-pub returns : goal.returns
-returns c = one_list

@@ -1,5 +1,0 @@
-use Rattle.hv_model.proofs.UnitLaws.{strip-escape}
-use Rattle.hv_model.proofs.unit_laws.payloads_come_back.Goals as goal
-
-pub returns : goal.returns
-returns c = strip-escape

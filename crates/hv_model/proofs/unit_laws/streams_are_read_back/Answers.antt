@@ -1,5 +1,0 @@
-use Rattle.hv_model.proofs.UnitLaws.{streams_read}
-use Rattle.hv_model.proofs.unit_laws.streams_are_read_back.Goals as goal
-
-pub returns : goal.returns
-returns c = streams_read

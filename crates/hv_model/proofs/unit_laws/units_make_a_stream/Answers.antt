@@ -1,5 +1,0 @@
-use Rattle.hv_model.proofs.UnitLaws.{stream_of_units}
-use Rattle.hv_model.proofs.unit_laws.units_make_a_stream.Goals as goal
-
-pub returns : goal.returns
-returns c = stream_of_units

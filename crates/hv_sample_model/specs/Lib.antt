@@ -1,0 +1,4 @@
+pub mod Blocks
+pub mod IntraPrediction
+pub mod InverseTransform
+pub mod Quantisation

@@ -1,0 +1,5 @@
+use Rattle.hv_stream_model.proofs.FilledBits.{bits_of_fields-append}
+use Rattle.hv_stream_model.proofs.field_laws.joined_fields_have_joined_bits.Goals as goal
+
+pub returns : goal.returns
+returns c = bits_of_fields-append

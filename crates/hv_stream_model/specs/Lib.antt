@@ -1,0 +1,11 @@
+pub mod Bits
+pub mod BitLaws
+pub mod DigitLaws
+pub mod Scripts
+pub mod Fields
+pub mod FieldLaws
+pub mod Units
+pub mod UnitLaws
+pub mod StreamLaws
+pub mod Headers
+pub mod HeaderLaws

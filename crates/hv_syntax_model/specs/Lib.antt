@@ -1,0 +1,4 @@
+pub mod Trees
+pub mod Bins
+pub mod BlockSyntax
+pub mod BlockLaws

@@ -1,5 +1,5 @@
-mod Putting
-mod Reading
-mod Escaping
-pub mod WritingLaws
-mod FieldLists
+mod PuttingLemmas
+mod ReadingLemmas
+mod EscapingLemmas
+pub mod WritingLemmas
+mod FieldListLemmas

@@ -1,8 +1,8 @@
-pub mod Numbers
-pub mod Bounds
-pub mod Cuts
-pub mod NextStates
-pub mod States
-pub mod Starts
-pub mod Standing
-pub mod Words
+pub mod NumberLemmas
+pub mod BoundLemmas
+pub mod CutLemmas
+pub mod NextStateLemmas
+pub mod StateLemmas
+pub mod StartLemmas
+pub mod StandingLemmas
+pub mod WordLemmas

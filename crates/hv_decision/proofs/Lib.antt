@@ -1,7 +1,7 @@
-pub mod Lists
-pub mod Lives
-pub mod CodingLaws
-pub mod EachStructure
-pub mod SetLaws
-pub mod Tables
-pub mod Orders
+pub mod ListLemmas
+pub mod LifeLemmas
+pub mod CodingLemmas
+pub mod EachStructureLemmas
+pub mod SetLemmas
+pub mod TableLemmas
+pub mod OrderLemmas

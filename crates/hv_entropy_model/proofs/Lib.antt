@@ -1,5 +1,5 @@
-pub mod Intervals
-pub mod Reading
-pub mod OracleLaws
-pub mod TableProofs
+pub mod IntervalLemmas
+pub mod ReadingLemmas
+pub mod OracleLemmas
+pub mod TableLemmas
 mod WorkedWords

@@ -106,7 +106,7 @@ fn turn(columns: &[u8], log2: u8, out: &mut [u8])
 
 /// A mode that predicts from the left: its columns are made as the rows of the others are.
 #[inline(always)]
-#[tactic(auto, using(crate::proofs::Sides::square_few))]
+#[tactic(auto, using(crate::proofs::SideLemmas::square_few))]
 pub(crate) fn predict_from_left(line: &[u8], log2: u8, mode: u8, out: &mut [u8])
     requires least { 2 ≤ log2 }
     requires most { log2 ≤ 5 }

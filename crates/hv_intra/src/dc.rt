@@ -7,7 +7,7 @@ use crate::neighbours::{above, left, side};
 
 /// dcVal (8.4.4.2.5): the mean of the neighbours beside the block, a half rounded up.
 #[inline(always)]
-#[tactic(auto, using(crate::proofs::Sums::total_more, crate::proofs::Sums::total_of_none))]
+#[tactic(auto, using(crate::proofs::SumLemmas::total_more, crate::proofs::SumLemmas::total_of_none))]
 fn mean(line: &[u8], log2: u8) -> u8
     requires least { 2 ≤ log2 }
     requires most { log2 ≤ 5 }

@@ -103,7 +103,7 @@ fn projected(mode: u8, i: usize) -> usize
 /// The reference samples of a mode that predicts from above: its main side is above the block, the
 /// other one at the left.
 #[inline(always)]
-#[tactic(auto, using(crate::proofs::Facts::counted_first, crate::proofs::Facts::counted_last, crate::proofs::Facts::counted_side, crate::proofs::Facts::projected_inside))]
+#[tactic(auto, using(crate::proofs::FactLemmas::counted_first, crate::proofs::FactLemmas::counted_last, crate::proofs::FactLemmas::counted_side, crate::proofs::FactLemmas::projected_inside))]
 pub(crate) fn fill_from_above(line: &[u8], log2: u8, mode: u8, reference: &mut [u8])
     requires least { 2 ≤ log2 }
     requires most { log2 ≤ 5 }
@@ -124,7 +124,7 @@ pub(crate) fn fill_from_above(line: &[u8], log2: u8, mode: u8, reference: &mut [
 
 /// The reference samples of a mode that predicts from the left, with the sides exchanged.
 #[inline(always)]
-#[tactic(auto, using(crate::proofs::Facts::counted_first, crate::proofs::Facts::counted_last, crate::proofs::Facts::counted_side, crate::proofs::Facts::projected_inside))]
+#[tactic(auto, using(crate::proofs::FactLemmas::counted_first, crate::proofs::FactLemmas::counted_last, crate::proofs::FactLemmas::counted_side, crate::proofs::FactLemmas::projected_inside))]
 pub(crate) fn fill_from_left(line: &[u8], log2: u8, mode: u8, reference: &mut [u8])
     requires least { 2 ≤ log2 }
     requires most { log2 ≤ 5 }

@@ -1,8 +1,8 @@
-pub mod SliceDataLaws
-pub mod PayloadLaws
-pub mod SliceLaws
-pub mod EncodingLaws
-pub mod RoundTrip
+pub mod SliceDataLemmas
+pub mod PayloadLemmas
+pub mod SliceLemmas
+pub mod EncodingLemmas
+pub mod RoundTripLemmas
 mod WorkedSlices
 mod WorkedStreams
-mod Refusals
+mod WorkedRefusals

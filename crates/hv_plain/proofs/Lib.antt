@@ -1,6 +1,6 @@
-pub mod BitPlaces
-pub mod PlainLaws
-pub mod NumberLaws
-pub mod SignedLaws
-pub mod TransitionLaws
-mod FieldSteps
+pub mod BitPlaceLemmas
+pub mod PlainLemmas
+pub mod NumberLemmas
+pub mod SignedLemmas
+pub mod TransitionLemmas
+mod FieldStepLemmas

@@ -56,7 +56,7 @@ fn doublings(fuel: u32, width: u32) -> u32
 }
 
 /// How often a width doubles until it has 256 (9.3.4.3.3).
-#[tactic(auto, using(hv_entropy_model::proofs::Intervals::shift_fits), unfolding(hv_entropy_model::specs::CodeWord::shift_of))]
+#[tactic(auto, using(hv_entropy_model::proofs::IntervalLemmas::shift_fits), unfolding(hv_entropy_model::specs::CodeWord::shift_of))]
 pub fn shift_of(width: u32) -> u32
     requires some { 0 < width }
     requires narrow { width ≤ 510 }

@@ -162,7 +162,7 @@ pub fn first_variables(alloc: Global, kind: SliceKind, qp: u8) -> Result<Vec<Var
 }
 
 /// The width of the less probable part of a range (9.3.4.3.2).
-#[tactic(auto, using(hv_entropy_model::proofs::Intervals::lps_bounds), unfolding(hv_entropy_model::specs::Contexts::lps_width))]
+#[tactic(auto, using(hv_entropy_model::proofs::IntervalLemmas::lps_bounds), unfolding(hv_entropy_model::specs::Contexts::lps_width))]
 pub fn lps_width(v: Variable, range: u32) -> u32
     ensures value { result ≡ lps_width v range }
     ensures least { 2 ≤ result }

@@ -1,3 +1,3 @@
-mod Sides
-mod SliceParts
-mod SetEntries
+mod SideLemmas
+mod SlicePartLemmas
+mod SetEntryLemmas

@@ -1,14 +1,14 @@
-pub mod DigitLaws
-pub mod BitLaws
-pub mod SmallFacts
-pub mod FilledBits
-pub mod ScriptLaws
-pub mod FieldLaws
-pub mod UnitLaws
-pub mod StreamLaws
-pub mod HeaderLaws
-mod SliceHeaderLaws
-mod SliceStructures
-mod Determined
+pub mod DigitLemmas
+pub mod BitLemmas
+pub mod ZeroLemmas
+pub mod FilledBitLemmas
+pub mod ScriptLemmas
+pub mod FieldLemmas
+pub mod UnitLemmas
+pub mod StreamLemmas
+pub mod HeaderLemmas
+mod SliceHeaderLemmas
+mod SliceStructureLemmas
+mod DeterminedLemmas
 mod WorkedUnits
 mod WorkedSets

@@ -1,1 +1,1 @@
-pub mod BlockLaws
+pub mod BlockLemmas

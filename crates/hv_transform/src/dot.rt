@@ -28,7 +28,7 @@ fn add_product(sum: i32, entry: i8, number: i16) -> i32
 /// It isn't inlined, since the compiler then makes it of multiplications that add in pairs, and
 /// spreads it over the loops of its callers otherwise.
 #[inline(never)]
-#[tactic(auto, using(crate::proofs::Sums::dot_of_more, crate::proofs::Sums::dot_of_none))]
+#[tactic(auto, using(crate::proofs::SumLemmas::dot_of_more, crate::proofs::SumLemmas::dot_of_none))]
 pub(crate) fn dot<const N: usize>(entries: &[i8; N], numbers: &[i16; N]) -> i32
     requires { N ≤ 32 }
     ensures value { result ≡ dot_of N entries.now numbers.now }

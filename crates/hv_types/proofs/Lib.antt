@@ -1,6 +1,6 @@
-pub mod ConfigurationLaws
+pub mod ConfigurationLemmas
 pub mod GroupLemmas
-pub mod SampleLaws
+pub mod SampleLemmas
 pub mod VideoLemmas
-mod VideoRows
-pub mod OutsideLaws
+mod VideoRowLemmas
+pub mod OutsideLemmas

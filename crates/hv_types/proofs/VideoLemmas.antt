@@ -10,7 +10,7 @@ use Rattle.hv_types.specs.Configuration.{picture_bytes_of}
 use Rattle.hv_types.specs.Video.{IsPicture, raw, front_plane, picture_of, picture_count, pictures, padded_side}
 use Rattle.hv_types.specs.VideoLaws.{CropUndoesPad, PadGivesPicture, CountsRaw, IsFront, FrontIsPicture, PicturesReadBack, BytesAreSplit, KeepBytes}
 use Rattle.hv_types.specs.declared.picture.Picture.{Picture}
-use Rattle.hv_types.proofs.SampleLaws.{IsPlane-pad, crop-pad, HasByteSamples-pad, HasByteSamples-crop, length-tabulate, get_or-tabulate, tabulate-same}
+use Rattle.hv_types.proofs.SampleLemmas.{IsPlane-pad, crop-pad, HasByteSamples-pad, HasByteSamples-crop, length-tabulate, get_or-tabulate, tabulate-same}
 
 abbrev picture : Plane → Plane → Plane → Picture
 picture luma cb cr = record { luma = luma; cb = cb; cr = cr }

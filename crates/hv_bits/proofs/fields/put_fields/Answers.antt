@@ -1,4 +1,4 @@
-use Rattle.hv_bits.proofs.FieldLists.{one_field}
+use Rattle.hv_bits.proofs.FieldListLemmas.{one_field}
 use Rattle.hv_bits.proofs.fields.put_fields.Goals as goal
 
 pub loop-field-preserved : goal.loop-field-preserved

@@ -1,4 +1,4 @@
-use Rattle.hv_bits.proofs.FieldLists.{tables_joined}
+use Rattle.hv_bits.proofs.FieldListLemmas.{tables_joined}
 use Rattle.hv_bits.proofs.fields.tables_join.Goals as goal
 
 pub returns : goal.returns

@@ -1,6 +1,6 @@
 use Rattle.std.proofs.Common.{◌≡◌, ◌<◌, ◌+◌, ◌/◌, ◌∙◌, arith, get_or, subst, sym, length-take}
 use Rattle.std.proofs.lemmas.List.{get_or-take}
-use Rattle.hv_bits.proofs.Reading.{number_step, number_final}
+use Rattle.hv_bits.proofs.ReadingLemmas.{number_step, number_final}
 use Rattle.hv_bits.proofs.reader.number_at.Goals as goal
 
 pub loop-byte-preserved : goal.loop-byte-preserved

@@ -1,6 +1,6 @@
 use Rattle.std.proofs.Common.{◌≡◌, ◌++◌, ◌∷◌, [], arith, ap, ◌∙◌}
 use Rattle.hv_stream_model.specs.Units.{last_of}
-use Rattle.hv_stream_model.proofs.FieldLaws.{last_of-append}
+use Rattle.hv_stream_model.proofs.FieldLemmas.{last_of-append}
 use Rattle.hv_bits.proofs.tests.zeros_and.Goals as goal
 
 pub returns : goal.returns

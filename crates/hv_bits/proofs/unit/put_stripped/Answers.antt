@@ -1,6 +1,6 @@
 use Rattle.std.proofs.Common.{◌≡◌, arith, sym, get_or, false}
 use Rattle.hv_stream_model.specs.Units.{is_emulation_byte}
-use Rattle.hv_bits.proofs.Escaping.{run_zero, run_other, short_run, other_byte, strip_kept, strip_left, strip_three_kept}
+use Rattle.hv_bits.proofs.EscapingLemmas.{run_zero, run_other, short_run, other_byte, strip_kept, strip_left, strip_three_kept}
 use Rattle.hv_bits.proofs.unit.put_stripped.Goals as goal
 use Rattle.hv_bits.proofs.unit.put_stripped.Goals.{then-run-gt1+then-escaped-at-eq-THREE_BYTE+in_ok-extend_from_slice, else-run-gt1+then-escaped-at-eq0, else-run-gt1-via-then-run-gt1+else-escaped-at-eq-THREE_BYTE, else-run-gt1-via-else-run-gt1, else-run-gt1+else-escaped-at-eq0}
 

@@ -1,6 +1,6 @@
 use Rattle.std.proofs.Common.{◌*◌, ◌^◌, ◌≤◌, ℕ, sym, subst}
-use Rattle.hv_entropy_model.proofs.Intervals.{shift_fits}
-use Rattle.hv_cabac.proofs.Bounds.{leading_shift}
+use Rattle.hv_entropy_model.proofs.IntervalLemmas.{shift_fits}
+use Rattle.hv_cabac.proofs.BoundLemmas.{leading_shift}
 use Rattle.hv_cabac.proofs.register.doublings.Goals as goal
 
 pub overflow_sub-result : goal.overflow_sub-result

@@ -1,5 +1,5 @@
 use Rattle.std.proofs.Common.{◌+◌, arith}
-use Rattle.hv_cabac.proofs.Bounds.{last_small, below_25}
+use Rattle.hv_cabac.proofs.BoundLemmas.{last_small, below_25}
 use Rattle.hv_cabac.proofs.register.last_of.Goals as goal
 
 pub returns-clause-small : goal.returns-clause-small

@@ -1,6 +1,6 @@
 use Rattle.std.proofs.Common.{◌≡◌, true, arith, sym, ◌∙◌}
 use Rattle.std.specs.Result.{is_ok}
-use Rattle.hv_cabac.proofs.Numbers.{lead_small, lead_room, moved}
+use Rattle.hv_cabac.proofs.NumberLemmas.{lead_small, lead_room, moved}
 use Rattle.hv_cabac.proofs.register.put_out.Goals as goal
 
 pub bring-requires : goal.bring-requires

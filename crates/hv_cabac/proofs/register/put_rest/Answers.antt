@@ -1,5 +1,5 @@
 use Rattle.std.proofs.Common.{arith, refl}
-use Rattle.hv_cabac.proofs.Bounds.{rest_goes_on}
+use Rattle.hv_cabac.proofs.BoundLemmas.{rest_goes_on}
 use Rattle.hv_cabac.proofs.register.put_rest.Goals as goal
 
 pub loop-left-preserved : goal.loop-left-preserved

@@ -1,5 +1,5 @@
 use Rattle.std.proofs.Common.{◌+◌, arith}
-use Rattle.hv_cabac.proofs.Bounds.{grown, below_25}
+use Rattle.hv_cabac.proofs.BoundLemmas.{grown, below_25}
 use Rattle.hv_cabac.proofs.register.raised.Goals as goal
 
 pub returns-clause-small : goal.returns-clause-small

@@ -1,5 +1,5 @@
 use Rattle.std.proofs.Common.{◌≡◌, ◌-◌, ◌*◌, ◌%◌, ◌^◌, arith}
-use Rattle.hv_cabac.proofs.Bounds.{rest_small, below_25}
+use Rattle.hv_cabac.proofs.BoundLemmas.{rest_small, below_25}
 use Rattle.hv_cabac.proofs.register.rest_of.Goals as goal
 
 pub returns-clause-small : goal.returns-clause-small

@@ -1,6 +1,6 @@
 use Rattle.std.proofs.Common.{◌≡◌, ℕ, arith, rules}
 use Rattle.hv_entropy_model.specs.Contexts.{lps_width}
-use Rattle.hv_entropy_model.proofs.Intervals.{lps_bounds}
+use Rattle.hv_entropy_model.proofs.IntervalLemmas.{lps_bounds}
 use Rattle.hv_cabac.specs.Variables.{variable_of}
 use Rattle.hv_cabac.proofs.tables.lps.Goals as goal
 

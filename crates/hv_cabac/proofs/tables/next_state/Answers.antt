@@ -1,8 +1,8 @@
 use Rattle.std.proofs.Common.{◌≡◌, ℕ, ◌+◌, ◌*◌, ◌%◌, Bool, true, false, cond, refl, ap, ◌∙◌, get_or}
 use mir.Val.{bool_byte}
 use Rattle.hv_cabac.specs.Variables.{variable_of}
-use Rattle.hv_cabac.proofs.NextStates.{next_states}
-use Rattle.hv_cabac.proofs.States.{next_at}
+use Rattle.hv_cabac.proofs.NextStateLemmas.{next_states}
+use Rattle.hv_cabac.proofs.StateLemmas.{next_at}
 use Rattle.hv_cabac.proofs.tables.next_state.Goals as goal
 
 byte_of : (v : Bool) → bool_byte v ≡ cond v 1 0

@@ -1,7 +1,7 @@
 use Rattle.std.proofs.Common.{arith, ◌∙◌, ap₂}
 use Rattle.std.specs.Prelude.{ℤ, pos, ◌+ℤ◌, ◌*ℤ◌}
 use Rattle.std.specs.Int.{int_shr}
-use Rattle.hv_cabac.proofs.Starts.{start_is}
+use Rattle.hv_cabac.proofs.StartLemmas.{start_is}
 use Rattle.hv_cabac.proofs.variables.start.Goals as goal
 
 pub returns : goal.returns

@@ -1,7 +1,7 @@
 use Rattle.std.proofs.Common.{◌∙◌, sym, ap, map, arith, ◌++◌}
 use Rattle.std.proofs.lemmas.List.{map-append}
 use Rattle.hv_decision.specs.Coding.{coded_as}
-use Rattle.hv_decision.proofs.CodingLaws.{halves_split, put_three}
+use Rattle.hv_decision.proofs.CodingLemmas.{halves_split, put_three}
 use Rattle.hv_decision.proofs.coding.+push_halves.Goals as goal
 
 pub returns : goal.returns

@@ -1,7 +1,7 @@
 use Rattle.std.proofs.Common.{◌∙◌, ap, map}
 use Rattle.std.proofs.lemmas.List.{map-append}
 use Rattle.hv_decision.specs.Coding.{coded_as}
-use Rattle.hv_decision.proofs.CodingLaws.{put_two}
+use Rattle.hv_decision.proofs.CodingLemmas.{put_two}
 use Rattle.hv_decision.proofs.coding.push_block.Goals as goal
 
 pub returns : goal.returns

@@ -1,6 +1,6 @@
 use Rattle.std.proofs.Common.{map, arith, ◌*◌, ◌^◌, ◌%◌}
 use Rattle.hv_decision.specs.Coding.{coded_as}
-use Rattle.hv_decision.proofs.CodingLaws.{step_is, blocks_first, blocks_step, blocks_end}
+use Rattle.hv_decision.proofs.CodingLemmas.{step_is, blocks_first, blocks_step, blocks_end}
 use Rattle.hv_decision.proofs.coding.push_blocks.Goals as goal
 
 pub loop-block-init : goal.loop-block-init

@@ -1,7 +1,7 @@
 use Rattle.std.proofs.Common.{◌≡◌, map, ◌++◌, ◌*◌, ◌^◌}
 use Rattle.hv_group_model.specs.Structure.{blocks, anchors}
 use Rattle.hv_decision.specs.Coding.{coded_as}
-use Rattle.hv_decision.proofs.CodingLaws.{anchors_from}
+use Rattle.hv_decision.proofs.CodingLemmas.{anchors_from}
 use Rattle.hv_decision.proofs.coding.push_blocks.Given as goal
 
 abbrev pub invariant-loop-block : goal.invariant-loop-block

@@ -1,7 +1,7 @@
 -- Nothing is coded behind the order; and each step back is one for each picture.
 use Rattle.std.proofs.Common.{◌≡◌, ◌∙◌, ap, length, arith}
-use Rattle.hv_decision.proofs.Lives.{the_life}
-use Rattle.hv_decision.proofs.SetLaws.{lives_begin, lives_go_back, lives_counted, lives_whole}
+use Rattle.hv_decision.proofs.LifeLemmas.{the_life}
+use Rattle.hv_decision.proofs.SetLemmas.{lives_begin, lives_go_back, lives_counted, lives_whole}
 use Rattle.hv_decision.proofs.sets.lives.Goals as goal
 
 pub loop-place-init : goal.loop-place-init

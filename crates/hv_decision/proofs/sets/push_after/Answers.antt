@@ -1,7 +1,7 @@
 use Rattle.std.proofs.Common.{◌∙◌, sym, ap, map, ◌++◌, ◌+◌, ◌-◌, length, arith}
 use Rattle.hv_group_model.specs.Structure.{rising}
 use Rattle.hv_decision.specs.Sets.{entry_after}
-use Rattle.hv_decision.proofs.SetLaws.{length_lives, place_at, entry_step, rising_more, kept_of}
+use Rattle.hv_decision.proofs.SetLemmas.{length_lives, place_at, entry_step, rising_more, kept_of}
 use Rattle.hv_decision.proofs.sets.push_after.Goals as goal
 
 pub bounds-lives-from : goal.bounds-lives-from

@@ -1,6 +1,6 @@
 use Rattle.std.proofs.Common.{◌∙◌, ap, map, ◌++◌, length, arith}
 use Rattle.hv_decision.specs.Coding.{coded_as}
-use Rattle.hv_decision.proofs.SetLaws.{length_lives, place_at, row_is, first_fits, first_of}
+use Rattle.hv_decision.proofs.SetLemmas.{length_lives, place_at, row_is, first_fits, first_of}
 use Rattle.hv_decision.proofs.sets.row.Goals as goal
 
 pub bounds-lives-from : goal.bounds-lives-from

@@ -2,7 +2,7 @@ use Rattle.std.proofs.Common.{◌∙◌, ap, map, ◌++◌, ◌∷◌, [], lengt
 use Rattle.std.proofs.lemmas.List.{map-append}
 use Rattle.hv_decision.specs.Coding.{coded_as}
 use Rattle.hv_decision.specs.Sets.{row_as, row_in}
-use Rattle.hv_decision.proofs.SetLaws.{map_rising_push}
+use Rattle.hv_decision.proofs.SetLemmas.{map_rising_push}
 use Rattle.hv_decision.proofs.sets.rows.Goals as goal
 
 pub loop-picture-preserved : goal.loop-picture-preserved

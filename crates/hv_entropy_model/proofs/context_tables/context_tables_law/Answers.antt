@@ -1,4 +1,4 @@
-use Rattle.hv_entropy_model.proofs.TableProofs.{adjacent, full, have_values, have_places}
+use Rattle.hv_entropy_model.proofs.TableLemmas.{adjacent, full, have_values, have_places}
 use Rattle.hv_entropy_model.proofs.context_tables.context_tables_law.Goals as goal
 
 pub returns-clause-adjacent : goal.returns-clause-adjacent

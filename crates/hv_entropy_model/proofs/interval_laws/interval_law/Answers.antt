@@ -1,4 +1,4 @@
-use Rattle.hv_entropy_model.proofs.Intervals.{shift_fits, cut_within}
+use Rattle.hv_entropy_model.proofs.IntervalLemmas.{shift_fits, cut_within}
 use Rattle.hv_entropy_model.proofs.interval_laws.interval_law.Goals as goal
 
 pub returns-clause-doubled : goal.returns-clause-doubled

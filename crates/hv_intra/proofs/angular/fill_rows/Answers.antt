@@ -1,9 +1,9 @@
 use Rattle.std.proofs.Common.{◌≡◌, ◌^◌, ◌<◌, ◌*◌, ◌+◌, ◌-◌, ℕ, List, arith, subst, length, take, drop}
 use Rattle.hv_intra.specs.Blocks.{IsRow}
 use Rattle.hv_intra.specs.References.{first, part, sample_between}
-use Rattle.hv_intra.proofs.Facts.{row_facts}
-use Rattle.hv_intra.proofs.Sides.{side_few}
-use Rattle.hv_intra.proofs.Rows.{rows_written, length-row}
+use Rattle.hv_intra.proofs.FactLemmas.{row_facts}
+use Rattle.hv_intra.proofs.SideLemmas.{side_few}
+use Rattle.hv_intra.proofs.RowLemmas.{rows_written, length-row}
 use Rattle.hv_intra.proofs.angular.fill_rows.Goals as goal
 
 pub fill_row-requires-clause-inside : goal.fill_row-requires-clause-inside

@@ -1,6 +1,6 @@
 use Rattle.std.proofs.Common.{◌∙◌}
 use Rattle.hv_sample_model.specs.IntraPrediction.{left, above}
-use Rattle.hv_intra.proofs.Interpolation.{between_is}
+use Rattle.hv_intra.proofs.InterpolationLemmas.{between_is}
 use Rattle.hv_intra.proofs.angular.predict_from_above.Goals as goal
 
 pub returns : goal.returns

@@ -1,6 +1,6 @@
 use Rattle.std.proofs.Common.{◌^◌, ◌*◌, ◌+◌, ℕ, arith, slice_index, subst}
 use Rattle.hv_intra.specs.Blocks.{IsRow}
-use Rattle.hv_intra.proofs.Rows.{rows_written}
+use Rattle.hv_intra.proofs.RowLemmas.{rows_written}
 use Rattle.hv_intra.proofs.angular.turn.Goals as goal
 
 pub loop-y-preserved : goal.loop-y-preserved

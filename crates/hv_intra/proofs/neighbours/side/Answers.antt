@@ -1,4 +1,4 @@
-use Rattle.hv_intra.proofs.Sides.{side_some, side_few, side_shifted}
+use Rattle.hv_intra.proofs.SideLemmas.{side_some, side_few, side_shifted}
 use Rattle.hv_intra.proofs.neighbours.side.Goals as goal
 
 pub returns-clause-some : goal.returns-clause-some

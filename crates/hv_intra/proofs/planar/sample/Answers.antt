@@ -1,5 +1,5 @@
 use Rattle.std.proofs.Common.{◌≤◌, ◌<◌, ◌+◌, ◌-◌, ◌*◌, ◌^◌, ◌/◌, ℕ, arith}
-use Rattle.hv_intra.proofs.Sides.{weighted_below, mean_below}
+use Rattle.hv_intra.proofs.SideLemmas.{weighted_below, mean_below}
 use Rattle.hv_intra.proofs.planar.sample.Goals as goal
 
 pub overflow_cast-result-3 : goal.overflow_cast-result-3

@@ -1,5 +1,5 @@
 use Rattle.std.proofs.Common.{◌∙◌}
-use Rattle.hv_intra.proofs.Prediction.{predicted_is}
+use Rattle.hv_intra.proofs.PredictionLemmas.{predicted_is}
 use Rattle.hv_intra.proofs.predict.predict_side.Goals as goal
 
 pub returns : goal.returns

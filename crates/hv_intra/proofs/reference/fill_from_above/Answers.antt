@@ -1,8 +1,8 @@
 use Rattle.std.proofs.Common.{◌≡◌, ◌-◌, ◌^◌, ◌<◌, ap, ◌∙◌, arith, ℕ}
 use Rattle.hv_sample_model.specs.IntraPrediction.{left, above}
 use Rattle.hv_intra.specs.References.{projected}
-use Rattle.hv_intra.proofs.Facts.{counted_first, counted_last, counted_side}
-use Rattle.hv_intra.proofs.ReferenceLists.{main_kept, before_more, reference_held}
+use Rattle.hv_intra.proofs.FactLemmas.{counted_first, counted_last, counted_side}
+use Rattle.hv_intra.proofs.ReferenceListLemmas.{main_kept, before_more, reference_held}
 use Rattle.hv_intra.proofs.reference.fill_from_above.Goals as goal
 
 pub projected-requires-clause-first : goal.projected-requires-clause-first

@@ -2,9 +2,9 @@ use Rattle.std.proofs.Common.{◌≡◌, ◌+◌, ap, ap₂, sym, ◌∙◌, ari
 use Rattle.std.specs.Prelude.{ℤ, pos, ◌+ℤ◌}
 use Rattle.std.specs.Int.RustNames.{unsigned_abs}
 use Rattle.hv_intra.specs.References.{first}
-use Rattle.hv_intra.proofs.Signed.{first_is}
-use Rattle.hv_intra.proofs.Facts.{row_facts}
-use Rattle.hv_intra.proofs.Sides.{side_few}
+use Rattle.hv_intra.proofs.SignedLemmas.{first_is}
+use Rattle.hv_intra.proofs.FactLemmas.{row_facts}
+use Rattle.hv_intra.proofs.SideLemmas.{side_few}
 use Rattle.hv_intra.proofs.reference.first.Goals as goal
 
 pub overflow_cast-result-2 : goal.overflow_cast-result-2

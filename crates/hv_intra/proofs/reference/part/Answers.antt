@@ -3,7 +3,7 @@ use Rattle.std.specs.Prelude.{ℤ, pos}
 use Rattle.std.specs.Int.{int_rem_euclid}
 use Rattle.std.specs.Int.RustNames.{unsigned_abs}
 use Rattle.hv_intra.specs.References.{part}
-use Rattle.hv_intra.proofs.Signed.{passed_small}
+use Rattle.hv_intra.proofs.SignedLemmas.{passed_small}
 use Rattle.hv_intra.proofs.reference.part.Goals as goal
 
 pub returns-clause-value : goal.returns-clause-value

@@ -3,8 +3,8 @@ use Rattle.std.specs.Prelude.{ℤ, pos, ◌+ℤ◌}
 use Rattle.std.specs.Int.{int_shr}
 use Rattle.std.specs.Int.RustNames.{unsigned_abs}
 use Rattle.hv_intra.specs.References.{projected}
-use Rattle.hv_intra.proofs.Signed.{place_is, place_small}
-use Rattle.hv_intra.proofs.Facts.{projected_is}
+use Rattle.hv_intra.proofs.SignedLemmas.{place_is, place_small}
+use Rattle.hv_intra.proofs.FactLemmas.{projected_is}
 use Rattle.hv_intra.proofs.reference.projected.Goals as goal
 
 pub overflow_cast-result : goal.overflow_cast-result

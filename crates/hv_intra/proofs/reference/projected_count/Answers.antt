@@ -2,8 +2,8 @@ use Rattle.std.proofs.Common.{◌≡◌, ◌≤◌, ◌-◌, ◌^◌, ap, sym, �
 use Rattle.std.specs.Prelude.{ℤ}
 use Rattle.std.specs.Int.RustNames.{unsigned_abs}
 use Rattle.hv_intra.specs.References.{shift}
-use Rattle.hv_intra.proofs.Signed.{passed_small}
-use Rattle.hv_intra.proofs.Facts.{shift_some, projected_count_is, projected_count_none}
+use Rattle.hv_intra.proofs.SignedLemmas.{passed_small}
+use Rattle.hv_intra.proofs.FactLemmas.{shift_some, projected_count_is, projected_count_none}
 use Rattle.hv_intra.proofs.reference.projected_count.Goals as goal
 
 size_is : (n side mode : ℕ) (s : ℤ) (size : ℕ) → size ≡ unsigned_abs s → s ≡ shift mode (side - 1) → side ≡ n →

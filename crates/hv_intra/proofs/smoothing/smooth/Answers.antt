@@ -1,5 +1,5 @@
 use Rattle.std.proofs.Common.{arith, length-set, ◌∙◌}
-use Rattle.hv_intra.proofs.SmoothedLines.{smoothed_from_places}
+use Rattle.hv_intra.proofs.SmoothedLineLemmas.{smoothed_from_places}
 use Rattle.hv_intra.proofs.smoothing.smooth.Goals as goal
 
 pub returns : goal.returns

@@ -1,5 +1,5 @@
 use Rattle.std.proofs.Common.{◌≡◌, ◌<◌, ◌≤◌, ◌-◌, ℕ, length, get_or}
-use Rattle.hv_intra.proofs.SmoothedLines.{weighted_at}
+use Rattle.hv_intra.proofs.SmoothedLineLemmas.{weighted_at}
 use Rattle.hv_intra.proofs.smoothing.smooth.Given as goal
 
 -- the ends, and so many between them

@@ -1,6 +1,6 @@
 use Rattle.std.proofs.Common.{◌^◌, arith, true}
 use Rattle.hv_sample_model.specs.IntraPrediction.{angular}
-use Rattle.hv_intra.proofs.Rows.{rows_written}
+use Rattle.hv_intra.proofs.RowLemmas.{rows_written}
 use Rattle.hv_intra.proofs.straight.predict_vertical.Goals as goal
 
 pub loop-y-preserved : goal.loop-y-preserved

@@ -1,4 +1,4 @@
-use Rattle.hv_model.proofs.PayloadLaws.{parameters-back}
+use Rattle.hv_model.proofs.PayloadLemmas.{parameters-back}
 use Rattle.hv_model.proofs.payload_laws.parameters_are_read.Goals as goal
 
 pub returns : goal.returns

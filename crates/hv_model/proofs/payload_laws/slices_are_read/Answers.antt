@@ -1,4 +1,4 @@
-use Rattle.hv_model.proofs.SliceLaws.{slices_back}
+use Rattle.hv_model.proofs.SliceLemmas.{slices_back}
 use Rattle.hv_model.proofs.payload_laws.slices_are_read.Goals as goal
 
 pub returns : goal.returns

@@ -1,4 +1,4 @@
-use Rattle.hv_model.proofs.RoundTrip.{built_decided}
+use Rattle.hv_model.proofs.RoundTripLemmas.{built_decided}
 use Rattle.hv_model.proofs.round_trip.built_is_decided.Goals as goal
 
 pub returns : goal.returns

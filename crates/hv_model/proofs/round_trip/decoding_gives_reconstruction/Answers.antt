@@ -1,4 +1,4 @@
-use Rattle.hv_model.proofs.RoundTrip.{decoding_gives}
+use Rattle.hv_model.proofs.RoundTripLemmas.{decoding_gives}
 use Rattle.hv_model.proofs.round_trip.decoding_gives_reconstruction.Goals as goal
 
 pub returns : goal.returns

@@ -1,8 +1,8 @@
 use Rattle.std.proofs.Common.{◌≡◌, ◌+◌, ◌-◌, ◌*◌, ◌^◌, ◌<◌, get_or, sym, ◌∙◌, arith}
 use Rattle.std.proofs.lemmas.Option.{get_or_from_slice_get}
 use Rattle.hv_stream_model.specs.Bits.{bits_of}
-use Rattle.hv_stream_model.proofs.BitLaws.{length-bits_of}
-use Rattle.hv_plain.proofs.BitPlaces.{within_bits, doubled_less, if_some_more, read_past, read_more}
+use Rattle.hv_stream_model.proofs.BitLemmas.{length-bits_of}
+use Rattle.hv_plain.proofs.BitPlaceLemmas.{within_bits, doubled_less, if_some_more, read_past, read_more}
 use Rattle.hv_plain.proofs.bits.+read_bits.Goals as goal
 
 pub read_bits-requires : goal.read_bits-requires

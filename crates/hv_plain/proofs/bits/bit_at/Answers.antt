@@ -1,4 +1,4 @@
-use Rattle.hv_plain.proofs.BitPlaces.{bit_there, bit_past}
+use Rattle.hv_plain.proofs.BitPlaceLemmas.{bit_there, bit_past}
 use Rattle.hv_plain.proofs.bits.bit_at.Goals as goal
 
 pub returns-then-at-bytes-clause-value : goal.returns-then-at-bytes-clause-value

@@ -1,7 +1,7 @@
 use Rattle.std.proofs.Common.{◌≡◌, ℕ, ◌+◌, ◌-◌, ◌*◌, ◌%◌, ◌^◌, ◌<◌, List, length, get_or, subst, arith, length-set}
 use Rattle.std.proofs.lemmas.Grind.{get_or_default_zero}
 use Rattle.hv_stream_model.specs.Bits.{number_of}
-use Rattle.hv_plain.proofs.NumberLaws.{carried, bits_set, none_carried}
+use Rattle.hv_plain.proofs.NumberLemmas.{carried, bits_set, none_carried}
 use Rattle.hv_plain.proofs.digits.add.Goals as goal
 
 pub loop-at-preserved : goal.loop-at-preserved

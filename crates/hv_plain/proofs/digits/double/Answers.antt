@@ -1,6 +1,6 @@
 use Rattle.std.proofs.Common.{ℕ, List, arith, ◌∷◌, [], length-append}
 use Rattle.hv_stream_model.specs.Bits.{number_of}
-use Rattle.hv_plain.proofs.NumberLaws.{bits_push, power_more}
+use Rattle.hv_plain.proofs.NumberLemmas.{bits_push, power_more}
 use Rattle.hv_plain.proofs.digits.double.Goals as goal
 
 pub loop-i-preserved : goal.loop-i-preserved

@@ -1,6 +1,6 @@
 use Rattle.std.proofs.Common.{◌≡◌, ◌+◌, ◌*◌, ◌^◌, length}
 use Rattle.hv_stream_model.specs.Bits.{number_of}
-use Rattle.hv_plain.proofs.NumberLaws.{AreBits}
+use Rattle.hv_plain.proofs.NumberLemmas.{AreBits}
 use Rattle.hv_plain.proofs.digits.double.Given as goal
 
 abbrev pub invariant-loop-i : goal.invariant-loop-i

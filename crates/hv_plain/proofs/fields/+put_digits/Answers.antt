@@ -1,5 +1,5 @@
 use Rattle.std.proofs.Common.{◌%◌, ◌++◌, ◌∷◌, [], ap, ◌∙◌, arith}
-use Rattle.hv_plain.proofs.FieldSteps.{digits_more}
+use Rattle.hv_plain.proofs.FieldStepLemmas.{digits_more}
 use Rattle.hv_plain.proofs.fields.+put_digits.Goals as goal
 
 pub returns : goal.returns

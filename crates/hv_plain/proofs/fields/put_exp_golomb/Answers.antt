@@ -1,6 +1,6 @@
 use Rattle.std.proofs.Common.{◌+◌, ◌++◌, ap, ◌∙◌, arith}
 use Rattle.hv_stream_model.specs.Bits.{digits}
-use Rattle.hv_plain.proofs.FieldSteps.{golomb_put}
+use Rattle.hv_plain.proofs.FieldStepLemmas.{golomb_put}
 use Rattle.hv_plain.proofs.fields.put_exp_golomb.Goals as goal
 
 pub returns : goal.returns

@@ -3,7 +3,7 @@ use Rattle.std.proofs.lemmas.Int.{ints}
 use mir.Syntax.{w32}
 use mir.Val.{to_z, of_z, SFits}
 use Rattle.hv_lemmas.specs.Clipping.{clip3}
-use Rattle.hv_plain.proofs.SignedLaws.{passed}
+use Rattle.hv_plain.proofs.SignedLemmas.{passed}
 use Rattle.hv_plain.proofs.variables.pre_ctx_state.Goals as goal
 
 pub returns-clause-value : goal.returns-clause-value

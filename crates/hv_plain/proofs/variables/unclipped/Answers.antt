@@ -3,7 +3,7 @@ use Rattle.std.proofs.lemmas.Int.{ints}
 use Rattle.std.specs.Int.{int_shr}
 use mir.Syntax.{w32}
 use mir.Val.{to_z, of_z, SFits}
-use Rattle.hv_plain.proofs.SignedLaws.{passed}
+use Rattle.hv_plain.proofs.SignedLemmas.{passed}
 use Rattle.hv_plain.proofs.variables.unclipped.Goals as goal
 
 pub returns : goal.returns

@@ -1,8 +1,8 @@
 -- The input has ended, or ends within the picture.
 use Rattle.std.proofs.Common.{◌≡◌, length, refl, arith, ◌∙◌}
 use Rattle.hv_types.specs.Configuration.{picture_bytes}
-use Rattle.hv_types.proofs.ConfigurationLaws.{picture_bytes-least}
-use Rattle.hv_run.proofs.Progress.{next_none, next_short}
+use Rattle.hv_types.proofs.ConfigurationLemmas.{picture_bytes-least}
+use Rattle.hv_run.proofs.ProgressLemmas.{next_none, next_short}
 use Rattle.hv_run.proofs.encode.encode_next.Goals as goal
 
 pub returns-in-Ok-eq0 : goal.returns-in-Ok-eq0

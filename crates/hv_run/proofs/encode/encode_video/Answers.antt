@@ -1,7 +1,7 @@
 -- Each picture is one more of those that are read, encoded and written; what ends the encoding ends it behind them.
 use Rattle.std.proofs.Common.{refl, arith, ap, ◌∙◌}
 use Rattle.std.specs.Prelude.{Ok, Err, Some, None}
-use Rattle.hv_run.proofs.Progress.{at_start, at_next, at_none, at_error, at_read_fault, at_too_long, byte_fault, next_is, next_none}
+use Rattle.hv_run.proofs.ProgressLemmas.{at_start, at_next, at_none, at_error, at_read_fault, at_too_long, byte_fault, next_is, next_none}
 use Rattle.hv_run.proofs.encode.encode_video.Goals as goal
 
 pub loop-number-init : goal.loop-number-init

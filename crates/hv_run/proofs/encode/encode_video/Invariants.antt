@@ -2,7 +2,7 @@
 use Rattle.std.proofs.Common.{◌≡◌}
 use Rattle.std.specs.Vec.{vec_len}
 use Rattle.hv_types.specs.Configuration.{picture_bytes}
-use Rattle.hv_run.proofs.Progress.{IsAt, call}
+use Rattle.hv_run.proofs.ProgressLemmas.{IsAt, call}
 use Rattle.hv_run.proofs.encode.encode_video.Given as goal
 
 abbrev pub invariant-loop-number : goal.invariant-loop-number

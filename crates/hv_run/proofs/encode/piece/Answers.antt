@@ -1,7 +1,7 @@
 -- The group has the settings that it was made with.
 use Rattle.std.proofs.Common.{ap, ◌∙◌, eq-eqb, ne_eqb}
 use Rattle.std.specs.Prelude.{nat_eq}
-use Rattle.hv_run.proofs.Streams.{later_piece, first_piece}
+use Rattle.hv_run.proofs.StreamLemmas.{later_piece, first_piece}
 use Rattle.hv_run.proofs.encode.piece.Goals as goal
 
 pub returns-then-not-first : goal.returns-then-not-first

@@ -1,6 +1,6 @@
 -- The text, and then the digits.
 use Rattle.std.proofs.Common.{◌++◌, List, ℕ, refl, ap, ◌∙◌, decimal}
-use Rattle.hv_run.proofs.Puts.{first_err, last_ok, last_err}
+use Rattle.hv_run.proofs.PutLemmas.{first_err, last_ok, last_err}
 use Rattle.hv_run.proofs.report.put_counted.Goals as goal
 
 pub returns-in_err-put-clause-err : goal.returns-in_err-put-clause-err

@@ -1,7 +1,7 @@
 -- The bytes that are there, the bytes of a picture, and the end of the line.
 use Rattle.std.proofs.Common.{◌++◌, refl, codes, append_assoc}
 use Rattle.hv_run.specs.Report.{counted}
-use Rattle.hv_run.proofs.Puts.{first_err, next_err, Tells-more, last_ok, last_err}
+use Rattle.hv_run.proofs.PutLemmas.{first_err, next_err, Tells-more, last_ok, last_err}
 use Rattle.hv_run.proofs.report.put_short.Goals as goal
 
 pub returns-in_err-put_counted-clause-err : goal.returns-in_err-put_counted-clause-err

@@ -1,4 +1,4 @@
-use Rattle.hv_run.proofs.Puts.{reported}
+use Rattle.hv_run.proofs.PutLemmas.{reported}
 use Rattle.hv_run.proofs.report.report_error.Goals as goal
 
 pub returns : goal.returns

@@ -1,7 +1,7 @@
 -- The pictures, the groups, the bytes, and the end of the line.
 use Rattle.std.proofs.Common.{◌++◌, refl, codes, append_assoc}
 use Rattle.hv_run.specs.Report.{counted}
-use Rattle.hv_run.proofs.Puts.{first_err, next_err, Tells-more, last_ok, last_err, three_then}
+use Rattle.hv_run.proofs.PutLemmas.{first_err, next_err, Tells-more, last_ok, last_err, three_then}
 use Rattle.hv_run.proofs.report.report_totals.Goals as goal
 
 pub returns-in_err-put_counted-clause-err : goal.returns-in_err-put_counted-clause-err

@@ -1,5 +1,5 @@
 -- The status and the line of an error.
-use Rattle.hv_run.proofs.Conclusions.{concluded_error}
+use Rattle.hv_run.proofs.ConclusionLemmas.{concluded_error}
 use Rattle.hv_run.proofs.run.encode_and_report.Goals as goal
 
 pub returns-in-Err : goal.returns-in-Err

@@ -1,5 +1,5 @@
 -- The bins of the calls, one behind the other.
-use Rattle.hv_run.proofs.Puttings.{puts_both}
+use Rattle.hv_run.proofs.PuttingLemmas.{puts_both}
 use Rattle.hv_run.proofs.slice.put_coding_tree_unit.Goals as goal
 
 pub returns : goal.returns

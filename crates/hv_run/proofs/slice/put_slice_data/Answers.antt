@@ -2,8 +2,8 @@
 use Rattle.std.proofs.Common.{◌≡◌, ◌*◌, ◌∙◌, ap₂, subst, arith}
 use Rattle.hv_types.specs.Bins.{Puts}
 use Rattle.hv_syntax_model.specs.Bins.{blocks_over}
-use Rattle.hv_run.proofs.Puttings.{leaves_less, leaves_nothing}
-use Rattle.hv_run.proofs.SliceBins.{blocks_counted, all_bins, no_bins, first_bins}
+use Rattle.hv_run.proofs.PuttingLemmas.{leaves_less, leaves_nothing}
+use Rattle.hv_run.proofs.SliceBinLemmas.{blocks_counted, all_bins, no_bins, first_bins}
 use Rattle.hv_run.proofs.slice.put_slice_data.Goals as goal
 
 pub loop-index-preserved : goal.loop-index-preserved

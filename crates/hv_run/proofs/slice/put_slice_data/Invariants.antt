@@ -1,7 +1,7 @@
 -- The blocks from this one on are left to put.
 use Rattle.std.proofs.Common.{◌-◌}
-use Rattle.hv_run.proofs.Puttings.{Leaves}
-use Rattle.hv_run.proofs.SliceBins.{bins_from}
+use Rattle.hv_run.proofs.PuttingLemmas.{Leaves}
+use Rattle.hv_run.proofs.SliceBinLemmas.{bins_from}
 use Rattle.hv_run.proofs.slice.put_slice_data.Given as goal
 
 abbrev pub invariant-loop-index : goal.invariant-loop-index

@@ -1,5 +1,5 @@
 use Rattle.std.proofs.Common.{◌∙◌}
-use Rattle.hv_run.proofs.Moves.{one_read}
+use Rattle.hv_run.proofs.MoveLemmas.{one_read}
 use Rattle.hv_run.proofs.transfer.fill.Goals as goal
 
 pub loop-filled-preserved : goal.loop-filled-preserved

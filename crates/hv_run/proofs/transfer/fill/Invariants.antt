@@ -1,6 +1,6 @@
 -- The buffer is filled up to a place, and no read has failed.
 use Rattle.std.proofs.Common.{length, ◌-◌, ◌≡◌}
-use Rattle.hv_run.proofs.Moves.{IsFilled}
+use Rattle.hv_run.proofs.MoveLemmas.{IsFilled}
 use Rattle.hv_run.proofs.transfer.fill.Given as goal
 
 abbrev pub invariant-loop-filled : goal.invariant-loop-filled

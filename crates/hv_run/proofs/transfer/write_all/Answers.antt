@@ -1,5 +1,5 @@
 use Rattle.std.proofs.Common.{◌∙◌}
-use Rattle.hv_run.proofs.Moves.{one_write, rest_of_piece}
+use Rattle.hv_run.proofs.MoveLemmas.{one_write, rest_of_piece}
 use Rattle.hv_run.proofs.transfer.write_all.Goals as goal
 
 pub loop-done-preserved : goal.loop-done-preserved

@@ -1,6 +1,6 @@
 -- The bytes are written up to a place, and no write has failed.
 use Rattle.std.proofs.Common.{length, ◌-◌, ◌≡◌}
-use Rattle.hv_run.proofs.Moves.{IsWritten}
+use Rattle.hv_run.proofs.MoveLemmas.{IsWritten}
 use Rattle.hv_run.proofs.transfer.write_all.Given as goal
 
 abbrev pub invariant-loop-done : goal.invariant-loop-done

@@ -1,5 +1,5 @@
 use Rattle.std.proofs.Common.{sym, ◌∙◌, arith, subst, ◌+◌, ◌*◌}
-use Rattle.hv_run.proofs.Decimals.{DigitsRead, next_digit, times_ten}
+use Rattle.hv_run.proofs.DecimalLemmas.{DigitsRead, next_digit, times_ten}
 use Rattle.hv_run.proofs.words.number.Goals as goal
 
 pub overflow_mul-value : goal.overflow_mul-value

@@ -1,5 +1,5 @@
 -- The value is that of the digits so far.
-use Rattle.hv_run.proofs.Decimals.{DigitsRead}
+use Rattle.hv_run.proofs.DecimalLemmas.{DigitsRead}
 use Rattle.hv_run.proofs.words.number.Given as goal
 
 abbrev pub invariant-loop-digit : goal.invariant-loop-digit

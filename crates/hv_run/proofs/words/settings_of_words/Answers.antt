@@ -1,5 +1,5 @@
 use Rattle.std.proofs.Common.{sym, ◌∙◌}
-use Rattle.hv_run.proofs.TwelveWords.{other_counts, twelve_words}
+use Rattle.hv_run.proofs.TwelveWordLemmas.{other_counts, twelve_words}
 use Rattle.hv_run.proofs.words.settings_of_words.Goals as goal
 
 pub returns-then-count-ne12 : goal.returns-then-count-ne12

@@ -4,7 +4,7 @@ use Rattle.hv_bits.specs.FieldTables.{field_of}
 use Rattle.hv_stream_model.specs.Fields.{bits_of_fields}
 use Rattle.hv_stream_model.specs.Headers.{set_fields}
 use Rattle.hv_slice.specs.Entries.{set_of}
-use Rattle.hv_slice.proofs.SliceParts.{parts_make}
+use Rattle.hv_slice.proofs.SlicePartLemmas.{parts_make}
 use Rattle.hv_slice.proofs.header.put_p_slice.Goals as goal
 
 pub returns : goal.returns

@@ -3,7 +3,7 @@ use Rattle.hv_bits.specs.Writing.{Appends}
 use Rattle.hv_stream_model.specs.Fields.{bits_of_fields}
 use Rattle.hv_stream_model.specs.Headers.{slice}
 use Rattle.hv_stream_model.specs.HeaderLaws.{IsAllowedSlice}
-use Rattle.hv_slice.proofs.SetEntries.{same_header, other_header}
+use Rattle.hv_slice.proofs.SetEntryLemmas.{same_header, other_header}
 use Rattle.hv_slice.proofs.header.put_slice.Goals as goal
 
 pub put_p_slice-requires : goal.put_p_slice-requires

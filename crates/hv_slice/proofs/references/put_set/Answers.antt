@@ -1,5 +1,5 @@
 use Rattle.std.proofs.Common.{refl}
-use Rattle.hv_slice.proofs.Sides.{both_put}
+use Rattle.hv_slice.proofs.SideLemmas.{both_put}
 use Rattle.hv_slice.proofs.references.put_set.Goals as goal
 
 pub returns : goal.returns

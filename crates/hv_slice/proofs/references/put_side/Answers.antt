@@ -1,5 +1,5 @@
 use Rattle.std.proofs.Common.{rules}
-use Rattle.hv_slice.proofs.Sides.{one_put, flag_is}
+use Rattle.hv_slice.proofs.SideLemmas.{one_put, flag_is}
 use Rattle.hv_slice.proofs.references.put_side.Goals as goal
 
 pub loop-entry-preserved : goal.loop-entry-preserved

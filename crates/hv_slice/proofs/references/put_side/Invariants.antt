@@ -1,5 +1,5 @@
 -- The entries so far were put.
-use Rattle.hv_slice.proofs.Sides.{IsPutTo}
+use Rattle.hv_slice.proofs.SideLemmas.{IsPutTo}
 use Rattle.hv_slice.proofs.references.put_side.Given as goal
 
 abbrev pub invariant-loop-entry : goal.invariant-loop-entry

@@ -1,7 +1,7 @@
 -- The last byte that is pushed is the last of the payload.
 use Rattle.std.proofs.Common.{◌≡◌, ◌++◌, ◌∷◌, [], arith, ap, ◌∙◌}
 use Rattle.hv_stream_model.specs.Units.{last_of}
-use Rattle.hv_stream_model.proofs.FieldLaws.{last_of-append}
+use Rattle.hv_stream_model.proofs.FieldLemmas.{last_of-append}
 use Rattle.hv_speed.proofs.streams.noise_payload.Goals as goal
 
 pub returns : goal.returns

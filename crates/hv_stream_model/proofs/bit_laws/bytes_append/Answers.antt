@@ -1,4 +1,4 @@
-use Rattle.hv_stream_model.proofs.BitLaws.{bytes_of-append}
+use Rattle.hv_stream_model.proofs.BitLemmas.{bytes_of-append}
 use Rattle.hv_stream_model.proofs.bit_laws.bytes_append.Goals as goal
 
 pub returns : goal.returns

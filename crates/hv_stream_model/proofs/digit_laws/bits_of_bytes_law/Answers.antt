@@ -1,4 +1,4 @@
-use Rattle.hv_stream_model.proofs.BitLaws.{bits_of-append, length-bits_of, AreBits-bits_of, drop-bits_of, bits_of-bytes_high_first}
+use Rattle.hv_stream_model.proofs.BitLemmas.{bits_of-append, length-bits_of, AreBits-bits_of, drop-bits_of, bits_of-bytes_high_first}
 use Rattle.hv_stream_model.proofs.digit_laws.bits_of_bytes_law.Goals as goal
 
 pub returns-clause-joined : goal.returns-clause-joined

@@ -1,6 +1,6 @@
-use Rattle.hv_stream_model.proofs.DigitLaws.{length-digits, digits-add, digits_low}
-use Rattle.hv_stream_model.proofs.BitLaws.{digits-mod, digits-pair}
-use Rattle.hv_stream_model.proofs.FieldLaws.{digits-zero, top_digit}
+use Rattle.hv_stream_model.proofs.DigitLemmas.{length-digits, digits-add, digits_low}
+use Rattle.hv_stream_model.proofs.BitLemmas.{digits-mod, digits-pair}
+use Rattle.hv_stream_model.proofs.FieldLemmas.{digits-zero, top_digit}
 use Rattle.hv_stream_model.proofs.digit_laws.digits_law.Goals as goal
 
 pub returns-clause-count : goal.returns-clause-count

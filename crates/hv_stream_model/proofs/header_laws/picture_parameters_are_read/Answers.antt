@@ -1,4 +1,4 @@
-use Rattle.hv_stream_model.proofs.HeaderLaws.{reads_pps}
+use Rattle.hv_stream_model.proofs.HeaderLemmas.{reads_pps}
 use Rattle.hv_stream_model.proofs.header_laws.picture_parameters_are_read.Goals as goal
 
 pub returns : goal.returns

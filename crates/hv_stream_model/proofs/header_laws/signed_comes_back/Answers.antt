@@ -1,4 +1,4 @@
-use Rattle.hv_stream_model.proofs.HeaderLaws.{signed_back}
+use Rattle.hv_stream_model.proofs.HeaderLemmas.{signed_back}
 use Rattle.hv_stream_model.proofs.header_laws.signed_comes_back.Goals as goal
 
 pub returns : goal.returns

@@ -1,4 +1,4 @@
-use Rattle.hv_stream_model.proofs.HeaderLaws.{sizes_allowed}
+use Rattle.hv_stream_model.proofs.HeaderLemmas.{sizes_allowed}
 use Rattle.hv_stream_model.proofs.header_laws.sizes_are_allowed.Goals as goal
 
 pub returns : goal.returns

@@ -1,4 +1,4 @@
-use Rattle.hv_stream_model.proofs.SliceStructures.{slices_allowed}
+use Rattle.hv_stream_model.proofs.SliceStructureLemmas.{slices_allowed}
 use Rattle.hv_stream_model.proofs.header_laws.slices_of_groups_are_allowed.Goals as goal
 
 pub returns : goal.returns

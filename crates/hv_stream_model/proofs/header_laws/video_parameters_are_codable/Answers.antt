@@ -1,4 +1,4 @@
-use Rattle.hv_stream_model.proofs.HeaderLaws.{codable_vps}
+use Rattle.hv_stream_model.proofs.HeaderLemmas.{codable_vps}
 use Rattle.hv_stream_model.proofs.header_laws.video_parameters_are_codable.Goals as goal
 
 pub returns : goal.returns

@@ -1,6 +1,6 @@
 use Rattle.std.proofs.Common.{refl}
 use Rattle.hv_tables.specs.TransformMatrix.{transMatrix}
-use Rattle.hv_tables.proofs.Computed.{entries_are}
+use Rattle.hv_tables.proofs.ComputedLemmas.{entries_are}
 use Rattle.hv_tables.proofs.matrix.matrix_rows_32.Goals as goal
 
 pub returns : goal.returns

@@ -4,7 +4,7 @@ use Rattle.std.specs.Int.RustNames.{FitsSigned, unsigned_abs}
 use mir.Syntax.{w16}
 use Rattle.hv_sample_model.specs.Quantisation.{rounded}
 use Rattle.hv_transform.specs.Rows.{dot_of}
-use Rattle.hv_transform.proofs.Numbers.{size_of_rounded}
+use Rattle.hv_transform.proofs.NumberLemmas.{size_of_rounded}
 use Rattle.hv_transform.proofs.dot.narrow_mean.Goals as goal
 
 pub overflow_cast-result : goal.overflow_cast-result

@@ -3,10 +3,10 @@ use Rattle.std.specs.Int.RustNames.{unsigned_abs}
 use Rattle.std.proofs.lemmas.List.Elements.{All-get_or}
 use Rattle.hv_sample_model.specs.Quantisation.{rounded}
 use Rattle.hv_transform.specs.Passes.{HasFirst, AreWithin, table_by_block}
-use Rattle.hv_transform.proofs.ForwardSteps.{forward_steps, pass_within, Have16Bits-within}
-use Rattle.hv_transform.proofs.Places.{places_few}
-use Rattle.hv_transform.proofs.Sizes.{size_between, shifts_suffice}
-use Rattle.hv_transform.proofs.Weights.{rows_are_light}
+use Rattle.hv_transform.proofs.ForwardStepLemmas.{forward_steps, pass_within, Have16Bits-within}
+use Rattle.hv_transform.proofs.PlaceLemmas.{places_few}
+use Rattle.hv_transform.proofs.SizeLemmas.{size_between, shifts_suffice}
+use Rattle.hv_transform.proofs.WeightLemmas.{rows_are_light}
 use Rattle.hv_transform.proofs.forward_transform.forward_of.Goals as goal
 
 pub transform_rows-requires : goal.transform_rows-requires

@@ -4,7 +4,7 @@ use Rattle.std.specs.Int.RustNames.{FitsSigned}
 use Rattle.hv_sample_model.specs.Quantisation.{rounded}
 use Rattle.hv_transform.specs.Rows.{dot_of, row_of}
 use Rattle.hv_transform.specs.Passes.{table_row}
-use Rattle.hv_transform.proofs.Places.{HasFirst-place}
+use Rattle.hv_transform.proofs.PlaceLemmas.{HasFirst-place}
 use Rattle.hv_transform.proofs.forward_transform.transform_columns.Goals as goal
 
 pub loop-u-preserved : goal.loop-u-preserved

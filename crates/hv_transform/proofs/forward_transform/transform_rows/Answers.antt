@@ -5,8 +5,8 @@ use mir.Syntax.{w16}
 use Rattle.hv_sample_model.specs.Quantisation.{rounded}
 use Rattle.hv_transform.specs.Rows.{dot_of, row_of}
 use Rattle.hv_transform.specs.Passes.{table_row}
-use Rattle.hv_transform.proofs.Numbers.{size_of_row_dot}
-use Rattle.hv_transform.proofs.Places.{HasFirst-place}
+use Rattle.hv_transform.proofs.NumberLemmas.{size_of_row_dot}
+use Rattle.hv_transform.proofs.PlaceLemmas.{HasFirst-place}
 use Rattle.hv_transform.proofs.forward_transform.transform_rows.Goals as goal
 
 pub narrow_mean-requires : goal.narrow_mean-requires

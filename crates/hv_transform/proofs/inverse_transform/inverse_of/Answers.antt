@@ -1,11 +1,11 @@
 use Rattle.std.proofs.Common.{◌*◌, arith}
-use Rattle.hv_transform.proofs.InverseSteps.{inverse_steps}
-use Rattle.hv_transform.proofs.Sizes.{size_between}
+use Rattle.hv_transform.proofs.InverseStepLemmas.{inverse_steps}
+use Rattle.hv_transform.proofs.SizeLemmas.{size_between}
 use Rattle.hv_transform.specs.Passes.{AreWithin, table_by_block}
 use Rattle.hv_sample_model.specs.Quantisation.{rounded}
-use Rattle.hv_transform.proofs.Numbers.{size_of_clipped}
-use Rattle.hv_transform.proofs.Places.{places_few}
-use Rattle.hv_transform.proofs.Weights.{columns_are_light}
+use Rattle.hv_transform.proofs.NumberLemmas.{size_of_clipped}
+use Rattle.hv_transform.proofs.PlaceLemmas.{places_few}
+use Rattle.hv_transform.proofs.WeightLemmas.{columns_are_light}
 use Rattle.hv_transform.proofs.inverse_transform.inverse_of.Goals as goal
 
 pub turn-requires-clause-few : goal.turn-requires-clause-few

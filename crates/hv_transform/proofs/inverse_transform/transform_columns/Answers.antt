@@ -6,7 +6,7 @@ use Rattle.hv_lemmas.specs.Clipping.{clip16}
 use Rattle.hv_sample_model.specs.Quantisation.{rounded}
 use Rattle.hv_transform.specs.Rows.{dot_of, row_of}
 use Rattle.hv_transform.specs.Passes.{table_row}
-use Rattle.hv_transform.proofs.Places.{HasFirst-place}
+use Rattle.hv_transform.proofs.PlaceLemmas.{HasFirst-place}
 use Rattle.hv_transform.proofs.inverse_transform.transform_columns.Goals as goal
 
 pub loop-x-preserved : goal.loop-x-preserved

@@ -1,8 +1,8 @@
 use Rattle.std.proofs.Common.{ℕ, ℤ, ◌+◌, ◌*◌, arith, rules, w32, pos, slice_index_or}
 use Rattle.std.specs.Int.RustNames.{FitsSigned}
 use mir.Syntax.{w16}
-use Rattle.hv_transform.proofs.Places.{HasFirst-place}
-use Rattle.hv_transform.proofs.Numbers.{narrowed}
+use Rattle.hv_transform.proofs.PlaceLemmas.{HasFirst-place}
+use Rattle.hv_transform.proofs.NumberLemmas.{narrowed}
 use Rattle.hv_transform.proofs.inverse_transform.turn.Goals as goal
 
 pub loop-y-preserved : goal.loop-y-preserved

@@ -1,6 +1,6 @@
 use Rattle.std.proofs.Common.{◌≡◌, ℕ, ◌-◌, ◌*◌, ◌%◌, ◌^◌, ◌≤◌, ◌∙◌, ap, arith}
 use Rattle.std.proofs.Math.Nat.{mul-le-mul, mul-le-mul_right}
-use Rattle.hv_transform.proofs.Powers.{whole_step, steps_few}
+use Rattle.hv_transform.proofs.PowerLemmas.{whole_step, steps_few}
 use Rattle.hv_transform.proofs.scaling.offset_of.Goals as goal
 
 pub returns-clause-value : goal.returns-clause-value

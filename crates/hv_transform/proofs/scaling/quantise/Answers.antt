@@ -5,8 +5,8 @@ use mir.Syntax.{w16}
 use Rattle.hv_lemmas.specs.Clipping.{clip16}
 use Rattle.hv_sample_model.specs.Quantisation.{quantised, with_sign_of, offset_of_kind, quantisation_shift}
 use Rattle.hv_tables.specs.Quantisers.{quantisation_factor}
-use Rattle.hv_transform.proofs.Lists.{map_is}
-use Rattle.hv_transform.proofs.Places.{HasFirst-set}
+use Rattle.hv_transform.proofs.ListLemmas.{map_is}
+use Rattle.hv_transform.proofs.PlaceLemmas.{HasFirst-set}
 use Rattle.hv_transform.proofs.scaling.quantise.Goals as goal
 
 pub loop-i-preserved : goal.loop-i-preserved

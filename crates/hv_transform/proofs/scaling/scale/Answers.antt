@@ -6,8 +6,8 @@ use Rattle.hv_lemmas.specs.Clipping.{clip16}
 use Rattle.hv_sample_model.specs.Quantisation.{rounded}
 use Rattle.hv_sample_model.specs.InverseTransform.{scaled}
 use Rattle.hv_tables.specs.Quantisers.{levelScale}
-use Rattle.hv_transform.proofs.Lists.{map_is, Have16Bits-clipped}
-use Rattle.hv_transform.proofs.Places.{HasFirst-set}
+use Rattle.hv_transform.proofs.ListLemmas.{map_is, Have16Bits-clipped}
+use Rattle.hv_transform.proofs.PlaceLemmas.{HasFirst-set}
 use Rattle.hv_transform.proofs.scaling.scale.Goals as goal
 
 pub loop-i-preserved : goal.loop-i-preserved

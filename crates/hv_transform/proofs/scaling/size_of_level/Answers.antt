@@ -1,4 +1,4 @@
-use Rattle.hv_transform.proofs.Powers.{level_small}
+use Rattle.hv_transform.proofs.PowerLemmas.{level_small}
 use Rattle.hv_transform.proofs.scaling.size_of_level.Goals as goal
 
 pub returns-clause-small : goal.returns-clause-small

@@ -1,4 +1,4 @@
-use Rattle.hv_types.proofs.OutsideLaws.{writes_joined}
+use Rattle.hv_types.proofs.OutsideLemmas.{writes_joined}
 use Rattle.hv_types.proofs.outside_laws.writes_law.Goals as goal
 
 pub returns : goal.returns

@@ -1,4 +1,4 @@
-use Rattle.hv_types.proofs.ConfigurationLaws.{valid, picture_bytes-least, picture_bytes-most}
+use Rattle.hv_types.proofs.ConfigurationLemmas.{valid, picture_bytes-least, picture_bytes-most}
 use Rattle.hv_types.proofs.settings_laws.settings_law.Goals as goal
 
 pub returns-clause-valid : goal.returns-clause-valid

@@ -1,4 +1,4 @@
-use Rattle.hv_types.proofs.SampleLaws.{length-tabulate}
+use Rattle.hv_types.proofs.SampleLemmas.{length-tabulate}
 use Rattle.hv_types.proofs.video_laws.tabulate_law.Goals as goal
 
 pub returns : goal.returns

@@ -1,6 +1,6 @@
 use Rattle.std.proofs.Common.{arith}
 use Rattle.std.proofs.lemmas.Bool.Decides.{nat_tests}
-use Rattle.hv_bits.proofs.Reading.{left_bits}
+use Rattle.hv_bits.proofs.ReadingLemmas.{left_bits}
 use Rattle.hv_bits.proofs.reader.BitReader.has.Goals as goal
 
 pub returns : goal.returns

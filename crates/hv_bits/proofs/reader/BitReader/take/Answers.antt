@@ -1,7 +1,7 @@
 use Rattle.std.proofs.Common.{arith, ap, ◌∙◌, ◌+◌, ◌/◌, ◌%◌, drop, length-drop}
 use Rattle.std.proofs.lemmas.List.{take_rest}
 use Rattle.hv_stream_model.specs.Bits.{bits_of}
-use Rattle.hv_bits.proofs.Reading.{left_bits, drop_passed}
+use Rattle.hv_bits.proofs.ReadingLemmas.{left_bits, drop_passed}
 use Rattle.hv_bits.proofs.reader.BitReader.take.Goals as goal
 
 pub number_at-number-requires-clause-there : goal.number_at-number-requires-clause-there

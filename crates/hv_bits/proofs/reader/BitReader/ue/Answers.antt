@@ -1,7 +1,7 @@
 use Rattle.std.proofs.Common.{rules, ◌≡◌, ◌+◌, ◌*◌, ◌<◌, ◌≤◌, arith, ap, subst, sym, ◌∙◌, take, drop, length}
 use Rattle.hv_stream_model.specs.Bits.{number_of}
 use Rattle.hv_stream_model.specs.Fields.{leading_zeros}
-use Rattle.hv_bits.proofs.Reading.{one_behind}
+use Rattle.hv_bits.proofs.ReadingLemmas.{one_behind}
 use Rattle.hv_bits.proofs.reader.BitReader.ue.Goals as goal
 
 pub overflow_sub-result : goal.overflow_sub-result

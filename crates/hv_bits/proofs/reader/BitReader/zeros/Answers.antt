@@ -1,6 +1,6 @@
 use Rattle.std.proofs.Common.{◌≡◌, arith, ap, ◌∙◌, sym, min, take, length}
 use Rattle.hv_stream_model.specs.Bits.{number_of}
-use Rattle.hv_bits.proofs.Reading.{left_bits, AreBits-left, place_within, zeros_all, zeros_some}
+use Rattle.hv_bits.proofs.ReadingLemmas.{left_bits, AreBits-left, place_within, zeros_all, zeros_some}
 use Rattle.hv_bits.proofs.reader.BitReader.zeros.Goals as goal
 use Rattle.hv_bits.proofs.reader.BitReader.zeros.Goals.{then-self-lt5, else-self-lt5}
 

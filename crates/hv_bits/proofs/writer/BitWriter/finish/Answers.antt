@@ -1,7 +1,7 @@
 use Rattle.std.proofs.Common.{◌≡◌, ◌%◌, arith, ap, sym, ◌∙◌, length}
 use Rattle.hv_stream_model.specs.Bits.{bits_of, bytes_of}
-use Rattle.hv_stream_model.proofs.BitLaws.{bytes_of-bits_of, AreBytes-append}
-use Rattle.hv_bits.proofs.Putting.{flush_byte, flushed, low_byte}
+use Rattle.hv_stream_model.proofs.BitLemmas.{bytes_of-bits_of, AreBytes-append}
+use Rattle.hv_bits.proofs.PuttingLemmas.{flush_byte, flushed, low_byte}
 use Rattle.hv_bits.proofs.writer.BitWriter.finish.Goals as goal
 
 pub loop-waiting-preserved : goal.loop-waiting-preserved

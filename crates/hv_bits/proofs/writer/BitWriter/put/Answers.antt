@@ -1,7 +1,7 @@
 use Rattle.std.proofs.Common.{◌≡◌, ◌+◌, ◌-◌, ◌/◌, ◌^◌, ◌++◌, arith}
 use Rattle.std.specs.Int.{w32, to_be_bytes}
-use Rattle.hv_stream_model.proofs.BitLaws.{AreBytes-append, AreBytes-bytes_high_first}
-use Rattle.hv_bits.proofs.Putting.{put_few, put_word, low, joined}
+use Rattle.hv_stream_model.proofs.BitLemmas.{AreBytes-append, AreBytes-bytes_high_first}
+use Rattle.hv_bits.proofs.PuttingLemmas.{put_few, put_word, low, joined}
 use Rattle.hv_bits.proofs.writer.BitWriter.put.Goals as goal
 
 pub returns-then-waiting-lt32 : goal.returns-then-waiting-lt32

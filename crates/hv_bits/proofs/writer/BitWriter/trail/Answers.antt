@@ -1,8 +1,8 @@
 use Rattle.std.proofs.Common.{◌≡◌, ◌%◌, ap, subst, sym, ◌∙◌, length}
 use Rattle.hv_stream_model.specs.Fields.{padding_of}
-use Rattle.hv_stream_model.proofs.FieldLaws.{length-aligned}
-use Rattle.hv_bits.proofs.Putting.{trail_bits}
-use Rattle.hv_bits.proofs.WritingLaws.{Appends-same}
+use Rattle.hv_stream_model.proofs.FieldLemmas.{length-aligned}
+use Rattle.hv_bits.proofs.PuttingLemmas.{trail_bits}
+use Rattle.hv_bits.proofs.WritingLemmas.{Appends-same}
 use Rattle.hv_bits.proofs.writer.BitWriter.trail.Goals as goal
 
 pub returns : goal.returns

@@ -1,6 +1,6 @@
 use Rattle.std.proofs.Common.{sym, arith}
-use Rattle.hv_stream_model.proofs.FieldLaws.{exp_golomb-eq}
-use Rattle.hv_bits.proofs.WritingLaws.{Appends-then, Appends-same}
+use Rattle.hv_stream_model.proofs.FieldLemmas.{exp_golomb-eq}
+use Rattle.hv_bits.proofs.WritingLemmas.{Appends-then, Appends-same}
 use Rattle.hv_bits.proofs.writer.BitWriter.ue.Goals as goal
 
 pub returns : goal.returns

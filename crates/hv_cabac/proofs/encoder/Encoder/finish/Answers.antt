@@ -1,4 +1,4 @@
-use Rattle.hv_cabac.proofs.Standing.{ended_sound}
+use Rattle.hv_cabac.proofs.StandingLemmas.{ended_sound}
 use Rattle.hv_cabac.proofs.encoder.Encoder.finish.Goals as goal
 
 pub returns : goal.returns

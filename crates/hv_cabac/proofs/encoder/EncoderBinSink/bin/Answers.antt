@@ -4,7 +4,7 @@ use Rattle.hv_types.specs.Bins.{Context}
 use Rattle.hv_entropy_model.specs.Contexts.{ContextVariable, variable_at, lps_width, no_variable}
 use Rattle.hv_cabac.specs.Variables.{variable_of}
 use Rattle.hv_cabac.specs.VariableStates.{variables_of}
-use Rattle.hv_cabac.proofs.Standing.{stands_more, context_kept, adapted, same_test}
+use Rattle.hv_cabac.proofs.StandingLemmas.{stands_more, context_kept, adapted, same_test}
 use Rattle.hv_cabac.proofs.encoder.EncoderBinSink.bin.Goals as goal
 
 pub returns : goal.returns

@@ -1,6 +1,6 @@
 use Rattle.std.proofs.Common.{refl}
 use Rattle.hv_types.specs.Bins.{Bypass}
-use Rattle.hv_cabac.proofs.Standing.{stands_more}
+use Rattle.hv_cabac.proofs.StandingLemmas.{stands_more}
 use Rattle.hv_cabac.proofs.encoder.EncoderBinSink.bypass.Goals as goal
 
 pub returns : goal.returns

@@ -2,7 +2,7 @@ use Rattle.std.proofs.Common.{◌-◌, ℕ, refl, subst}
 use Rattle.hv_types.specs.Bins.{Terminate}
 use Rattle.hv_entropy_model.specs.CodeWord.{part}
 use Rattle.hv_cabac.specs.Registers.{Kept}
-use Rattle.hv_cabac.proofs.Standing.{stands_more, stands_ended}
+use Rattle.hv_cabac.proofs.StandingLemmas.{stands_more, stands_ended}
 use Rattle.hv_cabac.proofs.encoder.EncoderBinSink.terminate.Goals as goal
 
 pub returns-then-not-value : goal.returns-then-not-value

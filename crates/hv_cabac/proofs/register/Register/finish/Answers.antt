@@ -1,5 +1,5 @@
 use Rattle.std.proofs.Common.{arith}
-use Rattle.hv_cabac.proofs.Words.{word_bytes}
+use Rattle.hv_cabac.proofs.WordLemmas.{word_bytes}
 use Rattle.hv_cabac.proofs.register.Register.finish.Goals as goal
 
 pub returns : goal.returns

@@ -1,4 +1,4 @@
-use Rattle.hv_cabac.proofs.Cuts.{settled_half}
+use Rattle.hv_cabac.proofs.CutLemmas.{settled_half}
 use Rattle.hv_cabac.proofs.register.Register.halve.Goals as goal
 
 pub returns : goal.returns

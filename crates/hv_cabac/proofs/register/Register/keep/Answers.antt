@@ -1,4 +1,4 @@
-use Rattle.hv_cabac.proofs.Cuts.{settled_part}
+use Rattle.hv_cabac.proofs.CutLemmas.{settled_part}
 use Rattle.hv_cabac.proofs.register.Register.keep.Goals as goal
 
 pub returns : goal.returns

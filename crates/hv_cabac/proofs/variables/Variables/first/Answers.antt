@@ -2,7 +2,7 @@ use Rattle.std.proofs.Common.{◌≡◌, ℕ, List, refl, arith, length-set, ap,
 use Rattle.std.proofs.lemmas.List.{length-replicate}
 use Rattle.hv_types.specs.declared.bins.SliceKind.{SliceKind}
 use Rattle.hv_cabac.specs.Variables.{values_of_kind}
-use Rattle.hv_cabac.proofs.Starts.{first_more, all_first, length-values_of_kind}
+use Rattle.hv_cabac.proofs.StartLemmas.{first_more, all_first, length-values_of_kind}
 use Rattle.hv_cabac.proofs.variables.Variables.first.Goals as goal
 
 all_values : (values : List ℕ) (kind : SliceKind) → values ≡ values_of_kind kind →

@@ -2,7 +2,7 @@ use Rattle.std.proofs.Common.{◌∙◌, ap, ap₂, arith, map}
 use Rattle.hv_group_model.specs.Structure.{rising}
 use Rattle.hv_decision.specs.Coding.{coded_as}
 use Rattle.hv_decision.specs.Sets.{row_in}
-use Rattle.hv_decision.proofs.Tables.{length_made, whole_made}
+use Rattle.hv_decision.proofs.TableLemmas.{length_made, whole_made}
 use Rattle.hv_decision.proofs.structure.Structure.of.Goals as goal
 
 pub rows-requires-clause-most : goal.rows-requires-clause-most

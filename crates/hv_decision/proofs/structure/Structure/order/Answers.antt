@@ -1,5 +1,5 @@
 use Rattle.std.proofs.Common.{arith}
-use Rattle.hv_decision.proofs.Tables.{table_of, length_order, picture_of_table, picture_below}
+use Rattle.hv_decision.proofs.TableLemmas.{table_of, length_order, picture_of_table, picture_below}
 use Rattle.hv_decision.proofs.structure.Structure.order.Goals as goal
 
 pub index-requires : goal.index-requires

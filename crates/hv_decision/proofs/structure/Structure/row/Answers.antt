@@ -1,5 +1,5 @@
 use Rattle.std.proofs.Common.{ap, arith, length}
-use Rattle.hv_decision.proofs.Tables.{table_of, levels_few, length_rows, row_of_table, depth_of_table, entries_of_table}
+use Rattle.hv_decision.proofs.TableLemmas.{table_of, levels_few, length_rows, row_of_table, depth_of_table, entries_of_table}
 use Rattle.hv_decision.proofs.structure.Structure.row.Goals as goal
 
 pub index-requires : goal.index-requires

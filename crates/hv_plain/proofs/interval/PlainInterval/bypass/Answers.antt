@@ -1,6 +1,6 @@
 use Rattle.std.proofs.Common.{◌≡◌, ℕ, ◌+◌, ◌-◌, ◌*◌, ◌^◌, ◌≤◌, length, arith, subst, sym}
 use Rattle.hv_stream_model.specs.Bits.{number_of}
-use Rattle.hv_plain.proofs.NumberLaws.{half_below, below_power}
+use Rattle.hv_plain.proofs.NumberLemmas.{half_below, below_power}
 use Rattle.hv_plain.proofs.interval.PlainInterval.bypass.Goals as goal
 
 pub add-requires-clause-fits : goal.add-requires-clause-fits

@@ -1,7 +1,7 @@
 use Rattle.std.proofs.Common.{◌≡◌, ℕ, ◌+◌, ◌-◌, List, length, set, arith, ap, ap₂, ◌∙◌}
 use Rattle.hv_stream_model.specs.Bits.{digits, number_of}
 use Rattle.hv_entropy_model.specs.CodeWord.{word_at, odd_from}
-use Rattle.hv_plain.proofs.NumberLaws.{below_power, stop_bit}
+use Rattle.hv_plain.proofs.NumberLemmas.{below_power, stop_bit}
 use Rattle.hv_plain.proofs.interval.PlainInterval.word.Goals as goal
 
 pub add-requires-clause-fits : goal.add-requires-clause-fits

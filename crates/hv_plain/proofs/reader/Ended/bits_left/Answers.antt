@@ -1,5 +1,5 @@
 use Rattle.std.proofs.Common.{ap, ◌∙◌, length}
-use Rattle.hv_plain.proofs.PlainLaws.{length_left}
+use Rattle.hv_plain.proofs.PlainLemmas.{length_left}
 use Rattle.hv_plain.proofs.reader.Ended.bits_left.Goals as goal
 
 pub returns : goal.returns

@@ -1,5 +1,5 @@
 use Rattle.std.proofs.Common.{rules}
-use Rattle.hv_types.proofs.SampleLaws.{filled-plane}
+use Rattle.hv_types.proofs.SampleLemmas.{filled-plane}
 use Rattle.hv_types.proofs.plane.Plane.new.Goals as goal
 
 pub returns : goal.returns

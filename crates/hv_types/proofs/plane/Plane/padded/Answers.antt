@@ -1,5 +1,5 @@
 use Rattle.std.proofs.Common.{ℕ, ◌∙◌, sym, ap, ◌++◌, ◌+◌, ◌*◌, rules, length, slice_range, arith}
-use Rattle.hv_types.proofs.SampleLaws.{padded_rows_none, padded_rows_more, padded_rows_all, length-padded_rows}
+use Rattle.hv_types.proofs.SampleLemmas.{padded_rows_none, padded_rows_more, padded_rows_all, length-padded_rows}
 use Rattle.hv_types.specs.Samples.{lengthened}
 use Rattle.hv_types.proofs.plane.Plane.padded.Goals as goal
 

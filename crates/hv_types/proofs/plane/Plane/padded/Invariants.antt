@@ -1,5 +1,5 @@
 use Rattle.std.proofs.Common.{◌≡◌}
-use Rattle.hv_types.proofs.SampleLaws.{padded_rows}
+use Rattle.hv_types.proofs.SampleLemmas.{padded_rows}
 use Rattle.hv_types.proofs.plane.Plane.padded.Given as goal
 
 abbrev pub invariant-loop-y : goal.invariant-loop-y

@@ -1,5 +1,5 @@
 use Rattle.std.proofs.Common.{◌≤◌, ◌+◌, ◌*◌, ◌/◌, subst, sym}
-use Rattle.hv_types.proofs.ConfigurationLaws.{valid, picture_bytes-most}
+use Rattle.hv_types.proofs.ConfigurationLemmas.{valid, picture_bytes-most}
 use Rattle.hv_types.proofs.settings.Config.picture_bytes.Goals as goal
 
 pub returns-clause-most : goal.returns-clause-most

@@ -1,4 +1,4 @@
-use Rattle.hv_types.proofs.ConfigurationLaws.{valid}
+use Rattle.hv_types.proofs.ConfigurationLemmas.{valid}
 use Rattle.hv_types.proofs.settings.Config.settings.Goals as goal
 
 pub returns-clause-ranges : goal.returns-clause-ranges

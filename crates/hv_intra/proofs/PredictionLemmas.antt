@@ -1,0 +1,15 @@
+-- Predicted blocks.
+use Rattle.std.proofs.Common.{◌≡◌, ℕ, ◌^◌, ◌≤◌, Bool, List, length, refl, ◌∙◌}
+use Rattle.hv_sample_model.specs.IntraPrediction.{filtered, by_mode, predicted}
+use Rattle.hv_intra.specs.Blocks.{HasRows}
+use Rattle.hv_intra.proofs.RowLemmas.{block_is}
+use Rattle.hv_intra.proofs.SideLemmas.{square_of_side}
+
+-- from the neighbours that a mode predicts from
+pub predicted_is : (log2 mode : ℕ) (luma : Bool) (line used block : List ℕ) → 2 ≤ log2 →
+    log2 ≤ 5 → used ≡ filtered log2 mode luma line → length block ≡ 4 ^ log2 →
+    HasRows (2 ^ log2) (2 ^ log2) (by_mode log2 mode luma used) block →
+    block ≡ predicted log2 mode luma line
+predicted_is log2 mode luma line used block least most e count rows =
+    block_is log2 (by_mode log2 mode luma used) block (count ∙ square_of_side log2 least most) rows ∙
+    rw e refl

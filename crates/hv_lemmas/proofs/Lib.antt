@@ -1,0 +1,4 @@
+pub mod ComparisonLemmas
+pub mod ComputedLemmas
+pub mod OptionLemmas
+pub mod SignedLemmas

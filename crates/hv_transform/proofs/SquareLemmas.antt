@@ -1,0 +1,69 @@
+-- Square blocks, place by place.
+use Rattle.std.proofs.Common.{◌≡◌, ℕ, zero, suc, ◌+◌, ◌-◌, ◌*◌, ◌/◌, ◌%◌, ◌^◌, ◌<◌, List, ℤ, pos, refl, sym, ◌∙◌, ap, ap₂, arith, get_or, slice_index_or, length, length-append}
+use Rattle.std.specs.List.{flat_map}
+use Rattle.std.proofs.lemmas.List.{get_or_append_left, get_or-append_right, ext_get_or}
+use Rattle.std.proofs.lemmas.Nat.{pow_pos}
+use Rattle.std.proofs.Math.Nat.{add-mul, div-lt_iff_lt-mul, mod-add-div'}
+use Rattle.hv_types.specs.Samples.{tabulate}
+use Rattle.hv_sample_model.specs.Blocks.{square}
+use Rattle.hv_transform.specs.Passes.{HasFirst}
+use Rattle.hv_transform.proofs.PlaceLemmas.{place_inside, row_of_place, column_of_place}
+
+length-tabulate : {A : Type 0} (n : ℕ) (f : ℕ → A) → length (tabulate n f) ≡ n
+unfolding tabulate
+length-tabulate zero f = refl
+length-tabulate (suc n) f = ap suc (length-tabulate n (λ i. f (suc i)))
+
+get_or-tabulate : (n i : ℕ) (f : ℕ → ℤ) → i < n → get_or (tabulate n f) i (pos 0) ≡ f i
+unfolding tabulate
+get_or-tabulate zero i f below = absurd (omega arith)
+get_or-tabulate (suc n) zero f below = refl
+get_or-tabulate (suc n) (suc i) f below = get_or-tabulate n i (λ k. f (suc k)) (omega arith)
+
+-- n columns and h rows
+abbrev rows_of : ℕ → ℕ → (ℕ → ℕ → ℤ) → List ℤ
+rows_of n h f = flat_map (λ row. row) (tabulate h (λ y. tabulate n (λ x. f x y)))
+
+length-rows_of : (n h : ℕ) (f : ℕ → ℕ → ℤ) → length (rows_of n h f) ≡ h * n
+unfolding tabulate
+length-rows_of n zero f = omega arith
+length-rows_of n (suc h) f =
+    omega (arith, length-append (tabulate n (λ x. f x 0)) (rows_of n h (λ x y. f x (suc y))), length-tabulate n (λ x. f x 0), length-rows_of n h (λ x y. f x (suc y)), add-mul h 1 n)
+
+get_or-rows_of : (n h x y i : ℕ) (f : ℕ → ℕ → ℤ) → x < n → y < h → i ≡ y * n + x → get_or (rows_of n h f) i (pos 0) ≡ f x y
+unfolding tabulate
+get_or-rows_of n zero x y i f across down at = absurd (omega arith)
+get_or-rows_of n (suc h) x zero i f across down at =
+    let here : i ≡ x = omega arith in
+    let size : length (tabulate n (λ u. f u 0)) ≡ n = length-tabulate n (λ u. f u 0) in
+    get_or_append_left (tabulate n (λ u. f u 0)) (rows_of n h (λ u v. f u (suc v))) (pos 0) i (omega arith)
+    ∙ ap (λ k. get_or (tabulate n (λ u. f u 0)) k (pos 0)) here
+    ∙ get_or-tabulate n x (λ u. f u 0) across
+get_or-rows_of n (suc h) x (suc y) i f across down at =
+    let size : length (tabulate n (λ u. f u 0)) ≡ n = length-tabulate n (λ u. f u 0) in
+    get_or-append_right (tabulate n (λ u. f u 0)) (rows_of n h (λ u v. f u (suc v))) n i (pos 0) size (omega (arith, add-mul y 1 n))
+    ∙ get_or-rows_of n h x y (i - n) (λ u v. f u (suc v)) across (omega arith) (omega (arith, add-mul y 1 n))
+
+-- where a place lies
+pub row_below : (n k : ℕ) → 0 < n → k < n * n → k / n < n
+row_below n k some below = (div-lt_iff_lt-mul {k = n} {x = k} {y = n} some).1 below
+
+pub column_below : (n k : ℕ) → 0 < n → k % n < n
+column_below n k some = omega arith
+
+-- a list that has the numbers of a square block is that block
+pub square_is : (log2 : ℕ) (f : ℕ → ℕ → ℤ) (numbers : List ℤ) → length numbers ≡ 2 ^ log2 * 2 ^ log2 → HasFirst (2 ^ log2 * 2 ^ log2) (λ k. f (k % 2 ^ log2) (k / 2 ^ log2)) numbers → numbers ≡ square log2 f
+square_is log2 f numbers whole each =
+    let n : ℕ = 2 ^ log2 in
+    let some : 0 < n = pow_pos log2 in
+    ext_get_or (pos 0) numbers (rows_of n n f) (whole ∙ sym (length-rows_of n n f))
+    (λ k below.
+    let inside : k < n * n = omega (arith, whole) in
+    each k inside ∙
+    sym (get_or-rows_of n n (k % n) (k / n) k f (column_below n k some) (row_below n k some inside) (omega (arith, mod-add-div' k n))))
+
+-- what stands at a place of a list that goes by rows and columns
+pub HasFirst-at : (n y x : ℕ) (g : ℕ → ℕ → ℤ) (numbers : List ℤ) → y < n → x < n → HasFirst (n * n) (λ k. g (k / n) (k % n)) numbers → slice_index_or numbers (y * n + x) (pos 0) ≡ g y x
+HasFirst-at n y x g numbers down across each =
+    each (y * n + x) (place_inside n y x down across) ∙
+    ap₂ g (row_of_place n y x across) (column_of_place n y x across)

@@ -1,4 +1,5 @@
-// Fields of headers, written one after another.
+//! Fields of headers, written one after another.
+
 ghost use Rattle.std.specs.Prelude.{◌≡◌, true, map};
 ghost use Rattle.std.specs.List.{list_all};
 ghost use Rattle.hv_stream_model.specs.Fields.{bits_of_fields, field_bits};

@@ -1,4 +1,5 @@
-// A reader of bits.
+//! A reader of bits.
+
 ghost use Rattle.std.specs.Prelude.{◌≡◌, ◌≢◌, ◌+◌, ◌*◌, ◌^◌, ◌<◌, ◌≤◌, ◌↔◌, length, min, take, drop, Some, IfOk, IsTrue, OnErr};
 ghost use Rattle.hv_stream_model.specs.Bits.{number_of, bits_of};
 ghost use Rattle.hv_stream_model.specs.Fields.{U, Ue, leading_zeros, read_field};
@@ -78,7 +79,7 @@ impl<'a> BitReader<'a> {
         Ok(self.take(zeros + 1) - 1)
     }
 
-    // Whether so many bits are left.
+    /// Whether so many bits are left.
     fn has(&self, count: u32) -> bool
         requires { count ≤ 65 }
         ensures { IsTrue result ↔ (count ≤ length self.now) }
@@ -86,7 +87,7 @@ impl<'a> BitReader<'a> {
         ((self.skipped + count + 7) / 8) as usize <= self.bytes.len()
     }
 
-    // The number that the next bits make, of which so many are left. Moves past them.
+    /// The number that the next bits make, of which so many are left. Moves past them.
     fn take(&mut self, count: u32) -> u64
         requires count { count ≤ 33 }
         requires there { count ≤ length self.old }
@@ -101,7 +102,7 @@ impl<'a> BitReader<'a> {
         number
     }
 
-    // How many zeros come next, or 33 where there are more.
+    /// How many zeros come next, or 33 where there are more.
     fn zeros(&self) -> u32
         ensures { result ≡ min 33 (leading_zeros self.now) }
     {
@@ -119,7 +120,7 @@ impl<'a> BitReader<'a> {
     }
 }
 
-// The number that bits make, the highest of them first.
+/// The number that bits make, the highest of them first.
 fn number_at(bytes: &[u8], skipped: u32, count: u32) -> u64
     requires skipped { skipped < 8 }
     requires count { count ≤ 33 }

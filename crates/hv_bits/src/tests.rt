@@ -1,5 +1,6 @@
-// What no clause says: that bytes come out where there is memory, and the bytes of worked fields
-// and units, which come from outside.
+//! What no clause says: that bytes come out where there is memory, and the bytes of worked fields
+//! and units, which come from outside.
+
 ghost use Rattle.std.specs.Prelude.{◌≢◌, IfOk};
 ghost use Rattle.hv_stream_model.specs.Units.{last_of};
 

@@ -1,12 +1,13 @@
-// NAL units, and emulation prevention.
+//! NAL units, and emulation prevention.
+
 ghost use Rattle.std.specs.Prelude.{◌≡◌, ◌≢◌, ◌+◌, ◌<◌, ◌≤◌, ◌++◌, length, drop, slice_index, IfOk, OnOk, IsTrue};
 ghost use Rattle.hv_stream_model.specs.Units.{unit_bytes, last_of, escape, strip};
 
 use hv_types::NoMemory;
 use std::alloc::{AllocError, Global};
 
-// `emulation_prevention_three_byte`, which stands behind two zero bytes and before a byte of at most
-// the second number (7.3.1.1, 7.4.2).
+/// `emulation_prevention_three_byte`, which stands behind two zero bytes and before a byte of at most
+/// the second number (7.3.1.1, 7.4.2).
 const THREE_BYTE: u8 = 3;
 
 const LARGEST_ESCAPED: u8 = 3;
@@ -42,8 +43,8 @@ pub fn strip_nal(alloc: Global, unit: &[u8]) -> Result<Vec<u8>, NoMemory>
     Ok(bytes)
 }
 
-// Whether the third byte from a place on is none that an emulation prevention byte stands before,
-// and isn't the last. Where no zero byte is before that place, all three stay as they are.
+/// Whether the third byte from a place on is none that an emulation prevention byte stands before,
+/// and isn't the last. Where no zero byte is before that place, all three stay as they are.
 #[inline(always)]
 fn third_is_large(bytes: &[u8], at: usize) -> bool
     requires { at < length bytes.now }
@@ -52,7 +53,7 @@ fn third_is_large(bytes: &[u8], at: usize) -> bool
     at + 3 < bytes.len() && bytes[at + 2] > LARGEST_ESCAPED
 }
 
-// Adds a payload with its emulation prevention bytes.
+/// Adds a payload with its emulation prevention bytes.
 fn put_escaped(bytes: &mut Vec<u8>, payload: &[u8]) -> Result<(), AllocError>
     ensures { OnOk result (bytes.new.items ≡ bytes.old.items ++ escape payload.now) }
 {
@@ -75,7 +76,7 @@ fn put_escaped(bytes: &mut Vec<u8>, payload: &[u8]) -> Result<(), AllocError>
     bytes.extend_from_slice(&payload[from..])
 }
 
-// Adds an escaped payload without its emulation prevention bytes.
+/// Adds an escaped payload without its emulation prevention bytes.
 fn put_stripped(bytes: &mut Vec<u8>, escaped: &[u8]) -> Result<(), AllocError>
     ensures { OnOk result (bytes.new.items ≡ bytes.old.items ++ strip escaped.now) }
 {

@@ -1,4 +1,5 @@
-// A writer of bits.
+//! A writer of bits.
+
 ghost use Rattle.std.specs.Prelude.{◌≡◌, ◌+◌, ◌-◌, ◌%◌, ◌^◌, ◌<◌, ◌≤◌, false, [], length, OnOk, IfOk, negsuc, ◌<ℤ◌};
 ghost use Rattle.hv_stream_model.specs.Bits.{digits, bits_of, bytes_of};
 ghost use Rattle.hv_stream_model.specs.Fields.{exp_golomb, code_num, padding_of};

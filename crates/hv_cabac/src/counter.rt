@@ -1,4 +1,5 @@
-// The counter of bins.
+//! The counter of bins.
+
 ghost use Rattle.std.specs.Prelude.{◌≡◌, ◌+◌, ℕ, List, [], min, length};
 ghost use Rattle.hv_types.specs.declared.bins.SliceKind.{SliceKind};
 ghost use Rattle.hv_types.specs.Bins.{Bin};

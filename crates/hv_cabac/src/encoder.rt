@@ -1,4 +1,5 @@
-// The arithmetic encoder.
+//! The arithmetic encoder.
+
 ghost use Rattle.std.specs.Prelude.{◌≡◌, ℕ, List, [], IfOk};
 ghost use Rattle.hv_types.specs.declared.bins.SliceKind.{SliceKind as Kind};
 ghost use Rattle.hv_types.specs.Bins.{Bin};
@@ -68,7 +69,7 @@ impl BinSink for Encoder {
         self.register.halve(value);
     }
 
-    // The bin that ends the slice leaves the interval as it is: `finish` puts the last digits.
+    /// The bin that ends the slice leaves the interval as it is: `finish` puts the last digits.
     #[inline(always)]
     fn terminate(&mut self, value: bool) {
         if !value {

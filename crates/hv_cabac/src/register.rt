@@ -1,4 +1,5 @@
-// The interval of the arithmetic encoder, in a register and the bytes that have left it.
+//! The interval of the arithmetic encoder, in a register and the bytes that have left it.
+
 ghost use Rattle.std.specs.Prelude.{◌≡◌, ◌+◌, ◌-◌, ◌*◌, ◌/◌, ◌%◌, ◌^◌, ◌<◌, ◌≤◌, [], List, cond, length, true, false, OnOk, IfOk, ℕ, slice_index_or};
 ghost use Rattle.hv_stream_model.specs.Bits.{bytes_of};
 ghost use Rattle.hv_entropy_model.specs.Contexts.{ContextVariable};

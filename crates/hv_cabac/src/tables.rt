@@ -1,4 +1,5 @@
-// The tables of the arithmetic coder, as the standard prints them and as the coder reads them.
+//! The tables of the arithmetic coder, as the standard prints them and as the coder reads them.
+
 ghost use Rattle.std.specs.Prelude.{◌≡◌, ◌<◌, ◌≤◌, length};
 ghost use Rattle.hv_entropy_model.specs.Contexts.{place_of, lps_width, next_variable};
 ghost use Rattle.hv_tables.specs.ContextTables.{offset_of};

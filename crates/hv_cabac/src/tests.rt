@@ -1,5 +1,6 @@
-// What no clause says: that words come out where there is memory, and the bytes of known ones. The
-// bytes were computed elsewhere, in a few lines of another language, by whole numbers never cut.
+//! What no clause says: that words come out where there is memory, and the bytes of known ones. The
+//! bytes were computed elsewhere, in a few lines of another language, by whole numbers never cut.
+
 ghost use Rattle.std.specs.Prelude.{◌≡◌, [], ◌∷◌, true, false, IfOk};
 ghost use Rattle.hv_types.specs.Bins.{Puts, context_bin, bypass_bin, terminate_bin};
 ghost use Rattle.hv_types.specs.declared.bins.CtxTable.TheVariants.{CodedSub};

@@ -1,4 +1,5 @@
-// The context variables of a slice.
+//! The context variables of a slice.
+
 ghost use Rattle.std.specs.Prelude.{◌≡◌, ◌≤◌, slice_index_or, slice_set, pos, ◌+ℤ◌, ◌*ℤ◌};
 ghost use Rattle.std.specs.Int.{int_shr};
 ghost use Rattle.std.specs.Int.RustNames.{unsigned_abs};

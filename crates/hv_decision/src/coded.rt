@@ -1,4 +1,5 @@
-// What is coded for a picture.
+//! What is coded for a picture.
+
 ghost use Rattle.std.specs.Prelude.{◌≡◌, slice_get, nat_eq};
 ghost use Rattle.std.specs.List.{list_any};
 

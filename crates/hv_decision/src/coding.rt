@@ -1,4 +1,5 @@
-// The pictures of a group in coding order: blocks from anchor to anchor, each halved.
+//! The pictures of a group in coding order: blocks from anchor to anchor, each halved.
+
 ghost use Rattle.std.specs.Prelude.{◌≡◌, ◌+◌, ◌<◌, ◌≤◌, ◌∷◌, [], ◌++◌, map, IfOk, OnOk};
 ghost use Rattle.hv_group_model.specs.Structure.{coded, coding, halves, blocks, anchors};
 ghost use Rattle.hv_decision.specs.Coding.{coded_as};
@@ -30,8 +31,8 @@ pub(crate) fn coding_order(
     Ok(order)
 }
 
-// Appends the blocks from anchor to anchor. The anchors are the multiples of 2^levels below the
-// last picture, and the last picture.
+/// Appends the blocks from anchor to anchor. The anchors are the multiples of 2^levels below the
+/// last picture, and the last picture.
 fn push_blocks(order: &mut Vec<CodedPicture>, count: u8, levels: u8) -> Result<(), NoMemory>
     requires some { 2 ≤ count }
     requires most { count ≤ 64 }
@@ -48,7 +49,7 @@ fn push_blocks(order: &mut Vec<CodedPicture>, count: u8, levels: u8) -> Result<(
     Ok(())
 }
 
-// Appends the block from an anchor to the next one: this one, and what lies between.
+/// Appends the block from an anchor to the next one: this one, and what lies between.
 fn push_block(order: &mut Vec<CodedPicture>, levels: u8, low: u8, high: u8) -> Result<(), NoMemory>
     requires rising { low ≤ high }
     requires most { high < 64 }
@@ -65,7 +66,7 @@ fn push_block(order: &mut Vec<CodedPicture>, levels: u8, low: u8, high: u8) -> R
     Ok(())
 }
 
-// Appends the pictures between two that are coded: the middle one, and the halves on both sides.
+/// Appends the pictures between two that are coded: the middle one, and the halves on both sides.
 fn push_halves(
     order: &mut Vec<CodedPicture>,
     levels: u8,

@@ -1,4 +1,5 @@
-// A group of pictures that is to be encoded, and what comes out.
+//! A group of pictures that is to be encoded, and what comes out.
+
 ghost use Rattle.std.specs.Prelude.{◌≡◌, ◌<◌, ◌++◌, ◌∷◌, [], length, OnOk, OnErr};
 
 use crate::structure::Structure;

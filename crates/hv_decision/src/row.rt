@@ -1,4 +1,5 @@
-// What is kept of a picture.
+//! What is kept of a picture.
+
 use crate::coded::CodedPicture;
 use smallvec::SmallVec;
 

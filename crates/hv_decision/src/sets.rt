@@ -1,4 +1,5 @@
-// Reference picture sets (8.3.2).
+//! Reference picture sets (8.3.2).
+
 ghost use Rattle.std.specs.Prelude.{◌≡◌, ◌+◌, ◌<◌, ◌≤◌, map, length, IfOk, OnOk, ℕ, slice_index_or, cond, ◌++◌, ◌∷◌, []};
 ghost use Rattle.hv_group_model.specs.Structure.{rising, place_in, set_in};
 ghost use Rattle.hv_decision.specs.Coding.{coded_as};
@@ -28,7 +29,7 @@ pub(crate) fn rows(alloc: Global, order: &[CodedPicture]) -> Result<Vec<Row>, No
     Ok(rows)
 }
 
-// The life of each picture, in output order, by one walk backwards over the coding order.
+/// The life of each picture, in output order, by one walk backwards over the coding order.
 fn lives(alloc: Global, order: &[CodedPicture]) -> Result<Vec<Life>, NoMemory>
     requires most { length order.now ≤ 64 }
     ensures { IfOk result (λ lives. AreLives order.now lives.items) }
@@ -44,7 +45,7 @@ fn lives(alloc: Global, order: &[CodedPicture]) -> Result<Vec<Life>, NoMemory>
     Ok(lives)
 }
 
-// The lives by what is coded from a place on, from those by what is coded behind it.
+/// The lives by what is coded from a place on, from those by what is coded behind it.
 fn step_back(lives: &mut Vec<Life>, coded: &CodedPicture, place: u8)
     requires few { length lives.old.items ≤ 64 }
     requires place { place < 64 }
@@ -59,7 +60,7 @@ fn step_back(lives: &mut Vec<Life>, coded: &CodedPicture, place: u8)
     }
 }
 
-// What is kept of one picture.
+/// What is kept of one picture.
 fn row(alloc: Global, order: &[CodedPicture], lives: &[Life], picture: u8) -> Result<Row, NoMemory>
     requires most { length order.now ≤ 64 }
     requires lives { AreLives order.now lives.now }
@@ -81,7 +82,7 @@ fn row(alloc: Global, order: &[CodedPicture], lives: &[Life], picture: u8) -> Re
     })
 }
 
-// Appends the entries of the pictures before a picture that it keeps, the nearest first.
+/// Appends the entries of the pictures before a picture that it keeps, the nearest first.
 fn push_before(
     entries: &mut SmallVec<SetEntry, 4>,
     order: &[CodedPicture],
@@ -104,7 +105,7 @@ fn push_before(
     Ok(())
 }
 
-// Appends the entries of the pictures after a picture that it keeps, the nearest first.
+/// Appends the entries of the pictures after a picture that it keeps, the nearest first.
 fn push_after(
     entries: &mut SmallVec<SetEntry, 4>,
     order: &[CodedPicture],
@@ -127,7 +128,7 @@ fn push_after(
     Ok(())
 }
 
-// Appends an entry where the picture at this place keeps the picture of this life.
+/// Appends an entry where the picture at this place keeps the picture of this life.
 fn push_kept(
     entries: &mut SmallVec<SetEntry, 4>,
     life: Life,
@@ -143,7 +144,7 @@ fn push_kept(
     Ok(())
 }
 
-// The entry of another picture in a picture's set.
+/// The entry of another picture in a picture's set.
 fn entry(coded: &CodedPicture, picture: u8, other: u8) -> SetEntry
     requires picture { picture < 64 }
     requires other { other < 64 }

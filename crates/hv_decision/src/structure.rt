@@ -1,4 +1,5 @@
-// The structure of a group of pictures.
+//! The structure of a group of pictures.
+
 ghost use Rattle.std.specs.Prelude.{◌≡◌, ◌+◌, ◌<◌, ◌≤◌, map, length, IfOk, slice_get, slice_index_or, Some};
 
 use crate::coding::{coding_order, pictures_of};
@@ -149,7 +150,7 @@ impl Structure {
         self.row(k).entries[usize::from(i)]
     }
 
-    // What is kept of picture `k`.
+    /// What is kept of picture `k`.
     fn row(&self, k: u8) -> &Row
         requires { k < self.now.count }
         ensures value { row_as result.now ≡ of_picture self.now.count self.now.levels k }

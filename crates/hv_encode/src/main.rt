@@ -30,7 +30,7 @@ fn main(rt: HostRuntime) -> ExitCode {
     ExitCode::from(status.code())
 }
 
-// The words after the program's name, or `None` where they can't be read or kept.
+/// The words after the program's name, or `None` where they can't be read or kept.
 fn words_of_arguments(rt: &HostRuntime) -> Option<Words> {
     let mut arguments = env::args(rt).ok()?;
     let _name = arguments.next();

@@ -1,4 +1,5 @@
-// The laws of the tables.
+//! The laws of the tables.
+
 ghost use Rattle.hv_tables.specs.ContextTables.{tables};
 ghost use Rattle.hv_entropy_model.specs.TableLaws.{AreAdjacent, AreFull, HaveValues, HavePlaces, LpsWidthIsBounded};
 

@@ -1,4 +1,4 @@
-// What the arithmetic coder writes is read back exactly.
+//! What the arithmetic coder writes is read back exactly.
 
 ghost use Rattle.hv_entropy_model.specs.ReadingBack.{CodeWordIsReadBack, ScriptsReadListed, ScriptsReadCodeWords};
 

@@ -1,4 +1,5 @@
-// The angular modes.
+//! The angular modes.
+
 ghost use Rattle.std.specs.Prelude.{◌≡◌, ◌+◌, ◌*◌, ◌^◌, ◌<◌, ◌≤◌, length, slice_index};
 ghost use Rattle.hv_intra.specs.Blocks.{IsRow, HasRows};
 ghost use Rattle.hv_intra.specs.References.{first, part, blended, sample_between};

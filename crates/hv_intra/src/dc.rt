@@ -1,4 +1,5 @@
-// Intra_DC.
+//! Intra_DC.
+
 ghost use Rattle.std.specs.Prelude.{◌≡◌, true, ◌+◌, ◌*◌, ◌/◌, ◌^◌, ◌<◌, ◌≤◌, length};
 ghost use Rattle.hv_intra.specs.Blocks.{IsRow, HasRows};
 ghost use Rattle.hv_sample_model.specs.IntraPrediction.{dc, dcVal};

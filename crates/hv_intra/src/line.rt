@@ -1,4 +1,5 @@
-// The line of neighbouring samples, with the missing ones substituted.
+//! The line of neighbouring samples, with the missing ones substituted.
+
 ghost use Rattle.std.specs.Prelude.{◌≡◌, ℕ, ◌≤◌, List, length, take, IsTrue};
 ghost use Rattle.hv_intra.specs.Lines.{is_length_of_line};
 ghost use Rattle.hv_sample_model.specs.IntraPrediction.{first_available, substituted, smoothed};

@@ -1,4 +1,5 @@
-// The samples of a line by their sides.
+//! The samples of a line by their sides.
+
 ghost use Rattle.std.specs.Prelude.{◌≡◌, ◌+◌, ◌*◌, ◌^◌, ◌≤◌, length};
 ghost use Rattle.hv_sample_model.specs.IntraPrediction.{left, above};
 

@@ -1,4 +1,5 @@
-// Intra_Planar.
+//! Intra_Planar.
+
 ghost use Rattle.std.specs.Prelude.{◌≡◌, ℕ, ◌+◌, ◌-◌, ◌*◌, ◌/◌, ◌^◌, ◌<◌, ◌≤◌, length};
 ghost use Rattle.hv_intra.specs.Blocks.{IsRow, HasRows};
 ghost use Rattle.hv_sample_model.specs.IntraPrediction.{planar};

@@ -1,4 +1,5 @@
-// Prediction of a block.
+//! Prediction of a block.
+
 ghost use Rattle.std.specs.Prelude.{◌≡◌, ◌+◌, ◌*◌, ◌^◌, ◌≤◌, length};
 ghost use Rattle.hv_intra.specs.Blocks.{HasRows};
 ghost use Rattle.hv_sample_model.specs.IntraPrediction.{angular, by_mode, predicted};

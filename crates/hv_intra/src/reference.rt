@@ -1,4 +1,5 @@
-// The reference samples of an angular mode.
+//! The reference samples of an angular mode.
+
 ghost use Rattle.std.specs.Prelude.{◌≡◌, ◌+◌, ◌*◌, ◌^◌, ◌<◌, ◌≤◌, length, pos, negsuc, ◌*ℤ◌};
 ghost use Rattle.std.specs.Int.RustNames.{unsigned_abs};
 ghost use Rattle.hv_tables.specs.Angles.{intraPredAngle, invAngle};

@@ -1,4 +1,5 @@
-// Filtering of the neighbours.
+//! Filtering of the neighbours.
+
 ghost use Rattle.std.specs.Prelude.{◌≡◌, ◌+◌, ◌*◌, ◌/◌, ◌^◌, ◌≤◌, length};
 ghost use Rattle.hv_sample_model.specs.IntraPrediction.{is_smoothed, smoothed, filtered};
 

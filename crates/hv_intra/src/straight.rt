@@ -1,4 +1,5 @@
-// The straight modes of the smaller luma blocks, which follow the other side at the block's edge.
+//! The straight modes of the smaller luma blocks, which follow the other side at the block's edge.
+
 ghost use Rattle.std.specs.Prelude.{◌≡◌, true, ◌+◌, ◌*◌, ◌^◌, ◌<◌, ◌≤◌, length, pos, ◌+ℤ◌, ◌-ℤ◌};
 ghost use Rattle.std.specs.Int.{int_shr};
 ghost use Rattle.std.specs.Int.RustNames.{unsigned_abs};

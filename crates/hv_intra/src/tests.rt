@@ -102,7 +102,7 @@ fn nothing_available(rt: HostRuntime) {
     }
 }
 
-// The third and the thirteenth neighbour are there.
+/// The third and the thirteenth neighbour are there.
 #[test]
 fn few_available(rt: HostRuntime) {
     let mut known = [None; 17];
@@ -152,7 +152,7 @@ fn dc_of_32(rt: HostRuntime) {
     assert_eq!(rt; block.as_slice(), [80u8; 1024].as_slice());
 }
 
-// The edge falls by half of a fall of 5, rounded down, and stops at 0.
+/// The edge falls by half of a fall of 5, rounded down, and stops at 0.
 #[test]
 fn straight_modes(rt: HostRuntime) {
     let main = [10, 20, 30, 40, 0, 0, 0, 0];
@@ -209,7 +209,7 @@ fn diagonals(rt: HostRuntime) {
     assert_eq!(rt; predicted_4(&both, 18, true).as_slice(), falling.as_slice());
 }
 
-// A fraction of so many 32nds of 16, rounded.
+/// A fraction of so many 32nds of 16, rounded.
 #[test]
 fn fractions(rt: HostRuntime) {
     let from_above = line_of_4(&NONE, 0, &MULTIPLES);
@@ -237,7 +237,7 @@ fn fractions(rt: HostRuntime) {
     );
 }
 
-// Before the corner stand the fourth and the seventh neighbour at the left.
+/// Before the corner stand the fourth and the seventh neighbour at the left.
 #[test]
 fn projected_neighbours(rt: HostRuntime) {
     let mut left = [0; 16];
@@ -247,7 +247,7 @@ fn projected_neighbours(rt: HostRuntime) {
     assert_eq!(rt; block[56], 112);
 }
 
-// In luma a neighbour is spread over three in mode 2 and not in mode 3.
+/// In luma a neighbour is spread over three in mode 2 and not in mode 3.
 #[test]
 fn smoothing(rt: HostRuntime) {
     let mut left = [0; 16];
@@ -263,14 +263,14 @@ fn smoothing(rt: HostRuntime) {
     );
 }
 
-// The sample in column x of row y is (2064 + 66x - 66y) / 32.
+/// The sample in column x of row y is (2064 + 66x - 66y) / 32.
 #[test]
 fn planar_of_16(rt: HostRuntime) {
     let block = predicted_16(&rising_line(), 0, true);
     assert_eq!(rt; corners(&block).as_slice(), [64u8, 95, 33, 64].as_slice());
 }
 
-// The mean is 64.5. The upper row is (260 + 2x) / 4, the first column (256 - 2y) / 4.
+/// The mean is 64.5. The upper row is (260 + 2x) / 4, the first column (256 - 2y) / 4.
 #[test]
 fn dc_of_16(rt: HostRuntime) {
     let block = predicted_16(&rising_line(), 1, true);
@@ -280,7 +280,7 @@ fn dc_of_16(rt: HostRuntime) {
     assert_eq!(rt; block[17], 64);
 }
 
-// The columns are 66 + 2x; the first falls by half of 2 in each row, and not in chroma.
+/// The columns are 66 + 2x; the first falls by half of 2 in each row, and not in chroma.
 #[test]
 fn vertical_of_16(rt: HostRuntime) {
     let block = predicted_16(&rising_line(), 26, true);
@@ -289,7 +289,7 @@ fn vertical_of_16(rt: HostRuntime) {
     assert_eq!(rt; corners(&block).as_slice(), [66u8, 96, 66, 96].as_slice());
 }
 
-// A row is 13 32nds of 2 further than the one above it, or a column than the one beside it.
+/// A row is 13 32nds of 2 further than the one above it, or a column than the one beside it.
 #[test]
 fn fractions_of_16(rt: HostRuntime) {
     let from_above = predicted_16(&rising_line(), 30, true);
@@ -304,8 +304,8 @@ fn fractions_of_16(rt: HostRuntime) {
     );
 }
 
-// The 33rd neighbour above is 64, in luma 32 with 16 at each side. The first row is 26 32nds of the
-// way from one neighbour to the next, the last one 26 whole neighbours further.
+/// The 33rd neighbour above is 64, in luma 32 with 16 at each side. The first row is 26 32nds of the
+/// way from one neighbour to the next, the last one 26 whole neighbours further.
 #[test]
 fn angle_at_32(rt: HostRuntime) {
     let mut known = [Some(0u8); 129];

@@ -36,8 +36,8 @@ pub fn sad_block_16(a: &[u8], a_stride: usize, b: &[u8], b_stride: usize, height
     sad_of_rows_16(a, a_stride, b, b_stride, &height)
 }
 
-// The height comes by reference, since the compiler unrolls the loop where all callers pass one
-// number, and then no longer finds the instruction that sums differences.
+/// The height comes by reference, since the compiler unrolls the loop where all callers pass one
+/// number, and then no longer finds the instruction that sums differences.
 #[inline(never)]
 #[tactic(auto, using(crate::proofs::RowLemmas::sum_of_no_rows))]
 fn sad_of_rows_16(a: &[u8], a_stride: usize, b: &[u8], b_stride: usize, height: &usize) -> u32

@@ -62,7 +62,7 @@ fn fast_rows() -> [u8; 4096] {
     samples
 }
 
-// The differences of row y are y, so the sums are those of y and of y * y, times the width.
+/// The differences of row y are y, so the sums are those of y and of y * y, times the width.
 #[test]
 fn blocks_of_rows(rt: HostRuntime) {
     let slow = slow_rows();
@@ -100,7 +100,7 @@ fn blocks_of_extreme_samples(rt: HostRuntime) {
     assert_eq!(rt; ssd_block_8(&white, 64, &black, 64, 8), 4161600);
 }
 
-// Square k of 20 columns has the sum 16k, and then 16k + 7 and 16k + 8.
+/// Square k of 20 columns has the sum 16k, and then 16k + 7 and 16k + 8.
 #[test]
 fn quarter_rows(rt: HostRuntime) {
     for (more, first) in [(0u8, 0u8), (7, 0), (8, 1)] {

@@ -1,4 +1,5 @@
-// How the stream of a video grows with its pictures.
+//! How the stream of a video grows with its pictures.
+
 ghost use Rattle.hv_model.specs.EncodingLaws.{EncodingAppends, EncodingIgnoresSamples};
 
 /// The stream of a video with one more picture at its end is the stream without it and then the

@@ -1,4 +1,5 @@
-// What is read of a payload is what it was made with.
+//! What is read of a payload is what it was made with.
+
 ghost use Rattle.hv_model.specs.PayloadLaws.{ParametersAreRead, AlignmentIsRead, SliceDataIsRead, SlicesAreRead, SlicesEnd};
 
 /// A parameter set's payload (7.3.2), its fields with rbsp_trailing_bits (7.3.2.11), is read as the

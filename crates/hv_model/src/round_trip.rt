@@ -1,4 +1,5 @@
-// What is written decodes to what is shown.
+//! What is written decodes to what is shown.
+
 ghost use Rattle.hv_model.specs.RoundTrip.{DecodingGivesReconstruction, EachIsReconstructed};
 ghost use Rattle.hv_model.specs.Built.{BuiltIsDecided};
 

@@ -1,4 +1,5 @@
-// The parameter sets, field by field, and their units.
+//! The parameter sets, field by field, and their units.
+
 ghost use Rattle.std.specs.Prelude.{◌≡◌, ◌≤◌, ◌<◌, false, IfOk};
 ghost use Rattle.hv_bits.specs.Writing.{Appends};
 ghost use Rattle.hv_stream_model.specs.Bits.{bytes_of};
@@ -17,7 +18,7 @@ use hv_stream_model::aligned_bytes_end;
 use hv_types::{Config, NoMemory};
 use std::alloc::Global;
 
-// nal_unit_type (7.4.2.2).
+/// nal_unit_type (7.4.2.2).
 const VPS_NUT: u8 = 32;
 
 const SPS_NUT: u8 = 33;
@@ -57,7 +58,7 @@ pub fn write_pps(alloc: Global, _config: &Config) -> Result<Vec<u8>, NoMemory>
     unit(alloc, PPS_NUT, writer)
 }
 
-// The unit of the bits that were put, with their trailing bits (7.3.2.11).
+/// The unit of the bits that were put, with their trailing bits (7.3.2.11).
 fn unit(alloc: Global, nal_unit_type: u8, mut writer: BitWriter) -> Result<Vec<u8>, NoMemory>
     requires { nal_unit_type < 64 }
     ensures unfailed { IfOk result (λ unit. writer.failed ≡ false) }
@@ -70,7 +71,7 @@ fn unit(alloc: Global, nal_unit_type: u8, mut writer: BitWriter) -> Result<Vec<u
     write_nal(alloc, nal_unit_type, 0, &payload)
 }
 
-// video_parameter_set_rbsp (7.3.2.1).
+/// video_parameter_set_rbsp (7.3.2.1).
 fn put_vps(writer: &mut BitWriter, levels: u8)
     requires { levels ≤ 3 }
     ensures { Appends writer.old writer.new (bits_of_fields (vps levels)) }
@@ -82,7 +83,7 @@ fn put_vps(writer: &mut BitWriter, levels: u8)
     put_fields(writer, &VPS_END);
 }
 
-// seq_parameter_set_rbsp (7.3.2.2).
+/// seq_parameter_set_rbsp (7.3.2.2).
 fn put_sps(writer: &mut BitWriter, config: &Config)
     ensures { Appends writer.old writer.new
         (bits_of_fields (sps config.now.levels (size_of config.now))) }
@@ -97,7 +98,7 @@ fn put_sps(writer: &mut BitWriter, config: &Config)
     put_fields(writer, &SPS_END);
 }
 
-// The padded size, and the window of it that is shown.
+/// The padded size, and the window of it that is shown.
 fn put_size(writer: &mut BitWriter, config: &Config)
     ensures { Appends writer.old writer.new (bits_of_fields (size_fields (size_of config.now))) }
 {
@@ -118,7 +119,7 @@ fn put_size(writer: &mut BitWriter, config: &Config)
     );
 }
 
-// The conformance window, by what is cut off at the right and at the bottom, in chroma samples.
+/// The conformance window, by what is cut off at the right and at the bottom, in chroma samples.
 fn put_window(writer: &mut BitWriter, right: u32, bottom: u32)
     requires right { right ≤ 3 }
     requires bottom { bottom ≤ 3 }

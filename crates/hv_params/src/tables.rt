@@ -1,5 +1,6 @@
-// The fields of the parameter sets in their order (7.3.2): constants where this profile leaves
-// nothing free.
+//! The fields of the parameter sets in their order (7.3.2): constants where this profile leaves
+//! nothing free.
+
 ghost use Rattle.std.specs.Prelude.{◌≡◌, ◌≤◌, true, map};
 ghost use Rattle.std.specs.List.{list_all};
 ghost use Rattle.hv_bits.specs.FieldTables.{field_of, is_codable};

@@ -1,5 +1,5 @@
-// What no clause says: that units come out where there is memory, and the bytes of known ones. The
-// bytes are those of another encoder, written by another hand, whose streams two decoders accept.
+//! What no clause says: that units come out where there is memory, and the bytes of known ones. The
+//! bytes are those of another encoder, written by another hand, whose streams two decoders accept.
 
 use crate::{write_pps, write_sps, write_vps};
 use hv_types::{Config, Emit, NoMemory, Settings};

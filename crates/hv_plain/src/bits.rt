@@ -1,4 +1,5 @@
-// Bits of bytes, read one by one.
+//! Bits of bytes, read one by one.
+
 ghost use Rattle.std.specs.Prelude.{◌≡◌, ℕ, ◌+◌, ◌*◌, ◌^◌, ◌<◌, ◌≤◌, List, length, drop, Option, option_map, slice_get, IfSome};
 ghost use Rattle.hv_stream_model.specs.Bits.{bits_of};
 ghost use Rattle.hv_entropy_model.specs.Contexts.{ContextVariable};

@@ -1,4 +1,5 @@
-// The place of each context's variable, and the variable that stands there.
+//! The place of each context's variable, and the variable that stands there.
+
 ghost use Rattle.std.specs.Prelude.{◌≡◌, ◌≤◌};
 ghost use Rattle.hv_tables.specs.ContextTables.{offset_of};
 ghost use Rattle.hv_entropy_model.specs.Contexts.{place_of, variable_at, with_variable};

@@ -1,4 +1,5 @@
-// Binary digits as a number that is never cut.
+//! Binary digits as a number that is never cut.
+
 ghost use Rattle.std.specs.Prelude.{◌≡◌, ◌+◌, ◌*◌, ◌^◌, ◌<◌, ◌≤◌, length, All, OnOk};
 ghost use Rattle.hv_stream_model.specs.Bits.{number_of};
 

@@ -1,4 +1,5 @@
-// Emulation prevention, byte by byte.
+//! Emulation prevention, byte by byte.
+
 ghost use Rattle.std.specs.Prelude.{◌≡◌, ◌+◌, ◌<◌, ◌≤◌, ◌^◌, ◌++◌, ◌∷◌, [], cond, IfOk, OnOk};
 ghost use Rattle.hv_stream_model.specs.Units.{run_after, needs_three, escape};
 

@@ -1,4 +1,5 @@
-// The bits of fields (7.2, 9.2), bit by bit.
+//! The bits of fields (7.2, 9.2), bit by bit.
+
 ghost use Rattle.std.specs.Prelude.{◌≡◌, ◌+◌, ◌<◌, ◌≤◌, ◌^◌, ◌++◌, map, IfOk, OnOk};
 ghost use Rattle.hv_stream_model.specs.Bits.{digits};
 ghost use Rattle.hv_stream_model.specs.Fields.{halvings, log2_of, exp_golomb, field_bits, bits_of_fields};

@@ -1,4 +1,5 @@
-// The interval of the arithmetic coder, bin by bin, with a low end that is never cut.
+//! The interval of the arithmetic coder, bin by bin, with a low end that is never cut.
+
 ghost use Rattle.std.specs.Prelude.{◌≡◌, ◌+◌, ◌-◌, ◌*◌, ◌^◌, ◌<◌, ◌≤◌, false, cond, length, All, IfOk};
 ghost use Rattle.hv_types.specs.Bins.{context_bin, bypass_bin, terminate_bin};
 ghost use Rattle.hv_stream_model.specs.Bits.{number_of};

@@ -1,4 +1,5 @@
-// The arithmetic decoder (9.3.4.3), bin by bin.
+//! The arithmetic decoder (9.3.4.3), bin by bin.
+
 ghost use Rattle.std.specs.Prelude.{◌≡◌, ◌-◌, ◌*◌, ◌^◌, ◌<◌, ◌≤◌, true, false, length, drop, IfOk, IfSome, MatchOption, MatchResult, None, Some};
 ghost use Rattle.hv_types.specs.Bins.{Context, Bypass, Terminate};
 ghost use Rattle.hv_stream_model.specs.Bits.{bits_of};

@@ -1,4 +1,4 @@
-// The tables of the arithmetic decoder, as numbers that a program reads.
+//! The tables of the arithmetic decoder, as numbers that a program reads.
 
 /// initValue of each context variable in I slices (9.3.2.2); 154 where they have none.
 #[rattlefmt::skip]

@@ -1,5 +1,6 @@
-// What the arithmetic encoder writes is what the plain interval gives, and the plain decoder reads
-// its bins back. The bytes come from outside: they were computed by whole numbers never cut.
+//! What the arithmetic encoder writes is what the plain interval gives, and the plain decoder reads
+//! its bins back. The bytes come from outside: they were computed by whole numbers never cut.
+
 use crate::{
     Ended, Field, PlainInterval, Reader, adapted, bits_of_fields, escape, field_bits,
     first_variables, variable_at,

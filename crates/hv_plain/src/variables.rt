@@ -1,4 +1,5 @@
-// Context variables (9.3.2.2, 9.3.4.3.2).
+//! Context variables (9.3.2.2, 9.3.4.3.2).
+
 ghost use Rattle.std.specs.Prelude.{◌≡◌, ◌+◌, ◌*◌, ◌/◌, ◌%◌, ◌<◌, ◌≤◌, cond, not, nat_eq, IfOk, flat_map, length, slice_index_or, pos, negsuc, ◌+ℤ◌, ◌-ℤ◌, ◌*ℤ◌, ◌≤ℤ◌};
 ghost use Rattle.std.specs.Int.{int_shr};
 ghost use Rattle.hv_tables.specs.ArithmeticTables.{transIdxLps};

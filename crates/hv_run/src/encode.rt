@@ -1,4 +1,5 @@
-// The encoding of a video: pictures that are each a group of their own.
+//! The encoding of a video: pictures that are each a group of their own.
+
 ghost use Rattle.std.specs.Prelude.{◌≡◌, ◌+◌, ◌<◌, ◌^◌, nat_eq, length, IfOk};
 ghost use Rattle.hv_types.specs.declared.picture.Picture.{Picture as Shown};
 ghost use Rattle.hv_types.specs.declared.settings.Emit.TheVariants.{Stream};
@@ -87,7 +88,7 @@ pub fn encode_video<S: Source, K: Sink>(
     }
 }
 
-// With one picture more, which is a group of its own and has so many bytes of output.
+/// With one picture more, which is a group of its own and has so many bytes of output.
 fn one_more(totals: Totals, bytes: usize) -> Totals
     requires pictures { totals.pictures + 1 < 2 ^ 32 }
     requires groups { totals.groups + 1 < 2 ^ 32 }
@@ -103,8 +104,8 @@ fn one_more(totals: Totals, bytes: usize) -> Totals
     }
 }
 
-// Reads the picture of this number, from 0, into `raw`, encodes it, and writes its bytes: how many they are, or `None`
-// where the input has ended.
+/// Reads the picture of this number, from 0, into `raw`, encodes it, and writes its bytes: how many they are, or `None`
+/// where the input has ended.
 fn encode_next<S: Source, K: Sink>(
     alloc: Global,
     config: &Config,
@@ -137,7 +138,7 @@ fn encode_next<S: Source, K: Sink>(
     }
 }
 
-// Encodes the picture of this number and writes its bytes: how many they are.
+/// Encodes the picture of this number and writes its bytes: how many they are.
 fn write_picture<K: Sink>(
     alloc: Global,
     config: &Config,
@@ -163,7 +164,7 @@ fn write_picture<K: Sink>(
     Ok(bytes.len())
 }
 
-// The bytes of the picture of this number, a group of its own, with the parameter sets before the first one.
+/// The bytes of the picture of this number, a group of its own, with the parameter sets before the first one.
 fn piece(alloc: Global, config: &Config, number: u32, raw: &[u8]) -> Result<Vec<u8>, NoMemory>
     requires built { IsBuilt config.now }
     requires whole { length raw.now ≡ picture_bytes config.now }

@@ -1,4 +1,5 @@
-// The lines of the report. No memory is taken: a line is written part by part.
+//! The lines of the report. No memory is taken: a line is written part by part.
+
 ghost use Rattle.std.specs.Prelude.{◌≡◌, ◌++◌, OnOk, OnErr, codes};
 ghost use Rattle.hv_run.specs.Report.{Tells, TellsPart, Reports, counted, short_line, words_line, config_line, error_line, totals_line};
 
@@ -117,7 +118,7 @@ fn config_text(error: ConfigError) -> &'static str
     }
 }
 
-// Writes a text, and a number in decimal digits.
+/// Writes a text, and a number in decimal digits.
 fn put_counted<P: Sink>(report: &mut P, text: &[u8], number: u128) -> Result<(), Failed>
     ensures ok { OnOk result (Tells record {
       old = P.written report.old;

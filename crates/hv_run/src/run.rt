@@ -1,4 +1,5 @@
-// The top call.
+//! The top call.
+
 ghost use Rattle.std.specs.Prelude.{◌≡◌, ◌⊎◌, ℕ, List, Some, length, IsTrue};
 ghost use Rattle.hv_types.specs.declared.settings.Settings.{Settings as SettingsSeen};
 ghost use Rattle.hv_types.specs.declared.picture.Picture.{Picture as PictureSeen};
@@ -143,7 +144,7 @@ pub fn run_encode<S: Source, K: Sink, P: Sink, G: Gate, R: Threads + Wait + Sync
     }
 }
 
-// Encodes the video and reports how that ends.
+/// Encodes the video and reports how that ends.
 fn encode_and_report<S: Source, K: Sink, P: Sink>(
     alloc: Global,
     config: &Config,
@@ -181,7 +182,7 @@ fn encode_and_report<S: Source, K: Sink, P: Sink>(
     }
 }
 
-// The status of a video that isn't encoded to its end.
+/// The status of a video that isn't encoded to its end.
 fn status_of(error: EncodeError) -> Status
     ensures { result ≡ status_of_error error }
 {

@@ -1,4 +1,5 @@
-// The units of a video: its parameter sets, and its pictures, which so far are IDR pictures.
+//! The units of a video: its parameter sets, and its pictures, which so far are IDR pictures.
+
 ghost use Rattle.std.specs.Prelude.{◌≡◌, length, IfOk};
 ghost use Rattle.hv_types.specs.declared.picture.Picture.{Picture as Shown};
 ghost use Rattle.hv_model.specs.Built.{IsBuilt};
@@ -12,7 +13,7 @@ use hv_params::{write_pps, write_sps, write_vps};
 use hv_types::{Config, NoMemory};
 use std::alloc::Global;
 
-// nal_unit_type of an IDR picture without leading pictures (7.4.2.2).
+/// nal_unit_type of an IDR picture without leading pictures (7.4.2.2).
 const IDR_N_LP: u8 = 20;
 
 /// The units of the parameter sets of these settings (7.3.2), with their start codes (Annex B):

@@ -1,4 +1,5 @@
-// The slice of an IDR picture in which nothing is chosen: its header, and its data.
+//! The slice of an IDR picture in which nothing is chosen: its header, and its data.
+
 ghost use Rattle.std.specs.Prelude.{◌≡◌, ◌≢◌, ◌*◌, ◌^◌, ◌<◌, ◌≤◌, [], ◌∷◌, ◌++◌, true, false, IfOk};
 ghost use Rattle.hv_types.specs.Bins.{Puts};
 ghost use Rattle.hv_stream_model.specs.Bits.{bytes_of};
@@ -24,10 +25,10 @@ use hv_syntax_model::sites_are_there;
 use hv_types::NoMemory;
 use std::alloc::Global;
 
-// The side of a coding tree block in luma samples (CtbSizeY).
+/// The side of a coding tree block in luma samples (CtbSizeY).
 const CTB_SIDE: u32 = 64;
 
-// The size of a node that is a whole coding tree block. A node's side is 8 << size luma samples.
+/// The size of a node that is a whole coding tree block. A node's side is 8 << size luma samples.
 const CTB_SIZE: u8 = 3;
 
 /// The payload of the slice of a group's first picture, an IDR picture in which nothing is chosen
@@ -50,7 +51,7 @@ pub fn slice_payload(alloc: Global, group: &Group) -> Result<Vec<u8>, NoMemory>
     Ok(payload)
 }
 
-// The slice data (7.3.8.1), as a code word with zeros to the byte.
+/// The slice data (7.3.8.1), as a code word with zeros to the byte.
 fn slice_data(alloc: Global, qp: u8, width: u32, height: u32) -> Result<Vec<u8>, NoMemory>
     requires width_least { 8 ≤ width }
     requires width_most { width ≤ 4096 }
@@ -67,8 +68,8 @@ fn slice_data(alloc: Global, qp: u8, width: u32, height: u32) -> Result<Vec<u8>,
     encoder.finish()
 }
 
-// slice_segment_data (7.3.8.1) of a picture of these sides in luma samples: the coding tree units
-// of its blocks, in raster order. The last one ends the slice.
+/// slice_segment_data (7.3.8.1) of a picture of these sides in luma samples: the coding tree units
+/// of its blocks, in raster order. The last one ends the slice.
 fn put_slice_data<B: BinSink>(sink: &mut B, width: u32, height: u32)
     requires width { width ≤ 4096 }
     requires height { height ≤ 2176 }
@@ -84,8 +85,8 @@ fn put_slice_data<B: BinSink>(sink: &mut B, width: u32, height: u32)
     }
 }
 
-// coding_tree_unit (7.3.8.2) of the block in this column and row, from 0, of a picture of these
-// sides in luma samples, and end_of_slice_segment_flag.
+/// coding_tree_unit (7.3.8.2) of the block in this column and row, from 0, of a picture of these
+/// sides in luma samples, and end_of_slice_segment_flag.
 fn put_coding_tree_unit<B: BinSink>(
     sink: &mut B,
     width: u32,
@@ -115,7 +116,7 @@ fn put_coding_tree_unit<B: BinSink>(
     sink.terminate(is_last);
 }
 
-// sao_merge_left_flag or sao_merge_up_flag, 0, where there is a block to merge with (7.3.8.3).
+/// sao_merge_left_flag or sao_merge_up_flag, 0, where there is a block to merge with (7.3.8.3).
 fn put_merge<B: BinSink>(sink: &mut B, is_there: bool)
     ensures { Puts B.stands_for sink.old sink.new (merge_bins is_there) }
 {
@@ -124,10 +125,10 @@ fn put_merge<B: BinSink>(sink: &mut B, is_there: bool)
     }
 }
 
-// coding_quadtree (7.3.8.4) of a node of this size, 0 to 3, in which nothing is chosen. `width` and
-// `height` say how much of the picture there is from its upper left corner on, in luma samples: a
-// node that crosses the picture's edge is split without a flag, down to 8x8, and nothing is coded of
-// one outside.
+/// coding_quadtree (7.3.8.4) of a node of this size, 0 to 3, in which nothing is chosen. `width` and
+/// `height` say how much of the picture there is from its upper left corner on, in luma samples: a
+/// node that crosses the picture's edge is split without a flag, down to 8x8, and nothing is coded of
+/// one outside.
 fn put_quadtree<B: BinSink>(sink: &mut B, size: u8, width: u32, height: u32)
     requires size { size ≤ 3 }
     ensures { Puts B.stands_for sink.old sink.new (tree_bins size (blank_tree size width height)) }
@@ -147,7 +148,7 @@ fn put_quadtree<B: BinSink>(sink: &mut B, size: u8, width: u32, height: u32)
     }
 }
 
-// The side of a node in luma samples: 8, 16, 32 or 64.
+/// The side of a node in luma samples: 8, 16, 32 or 64.
 fn side(size: u8) -> u32
     requires { size ≤ 3 }
     ensures { result ≡ 8 * 2 ^ size }
@@ -155,7 +156,7 @@ fn side(size: u8) -> u32
     8 << size
 }
 
-// split_cu_flag, 0, and coding_unit (7.3.8.5) of a node of this size.
+/// split_cu_flag, 0, and coding_unit (7.3.8.5) of a node of this size.
 fn put_coding_unit<B: BinSink>(sink: &mut B, size: u8)
     ensures { Puts B.stands_for sink.old sink.new (split_bins size ++ unit_bins size) }
 {
@@ -165,7 +166,7 @@ fn put_coding_unit<B: BinSink>(sink: &mut B, size: u8)
     put_transform_tree(sink, size);
 }
 
-// split_cu_flag, 0: a unit of 8x8 has none, and no unit at the left or above is deeper.
+/// split_cu_flag, 0: a unit of 8x8 has none, and no unit at the left or above is deeper.
 fn put_split_flag<B: BinSink>(sink: &mut B, size: u8)
     ensures { Puts B.stands_for sink.old sink.new (split_bins size) }
 {
@@ -174,7 +175,7 @@ fn put_split_flag<B: BinSink>(sink: &mut B, size: u8)
     }
 }
 
-// part_mode, which a unit of 8x8 has alone: PART_2Nx2N.
+/// part_mode, which a unit of 8x8 has alone: PART_2Nx2N.
 fn put_part_mode<B: BinSink>(sink: &mut B, size: u8)
     ensures { Puts B.stands_for sink.old sink.new (part_bins size) }
 {
@@ -183,7 +184,7 @@ fn put_part_mode<B: BinSink>(sink: &mut B, size: u8)
     }
 }
 
-// Mode DC as the second of the most probable modes, and the chroma mode that follows it (7.3.8.5).
+/// Mode DC as the second of the most probable modes, and the chroma mode that follows it (7.3.8.5).
 fn put_prediction<B: BinSink>(sink: &mut B)
     ensures { Puts B.stands_for sink.old sink.new prediction_bins }
 {
@@ -193,7 +194,7 @@ fn put_prediction<B: BinSink>(sink: &mut B)
     put_element(sink, CtxTable::ChromaMode, 0, false);
 }
 
-// transform_tree without a level but 0 (7.3.8.8): cbf_cb and cbf_cr of the whole, and cbf_luma.
+/// transform_tree without a level but 0 (7.3.8.8): cbf_cb and cbf_cr of the whole, and cbf_luma.
 fn put_transform_tree<B: BinSink>(sink: &mut B, size: u8)
     ensures { Puts B.stands_for sink.old sink.new (transform_bins size) }
 {
@@ -202,7 +203,7 @@ fn put_transform_tree<B: BinSink>(sink: &mut B, size: u8)
     put_luma_flags(sink, size);
 }
 
-// cbf_luma, 0: of a unit of 64x64 that of each of its four transform blocks of 32x32.
+/// cbf_luma, 0: of a unit of 64x64 that of each of its four transform blocks of 32x32.
 fn put_luma_flags<B: BinSink>(sink: &mut B, size: u8)
     ensures { Puts B.stands_for sink.old sink.new (luma_bins size) }
 {
@@ -216,14 +217,14 @@ fn put_luma_flags<B: BinSink>(sink: &mut B, size: u8)
     }
 }
 
-// A syntax element of one bin, coded with the context variable at this place of its table.
+/// A syntax element of one bin, coded with the context variable at this place of its table.
 fn put_element<B: BinSink>(sink: &mut B, table: CtxTable, index: u8, value: bool)
     ensures { Puts B.stands_for sink.old sink.new (bin table index value ∷ []) }
 {
     sink.bin(Ctx { table, index }, value);
 }
 
-// The header with its byte_alignment (7.3.6.1, 7.3.2.12).
+/// The header with its byte_alignment (7.3.6.1, 7.3.2.12).
 fn header(alloc: Global, group: &Group) -> Result<Vec<u8>, NoMemory>
     ensures { IfOk result (λ bytes.
         bytes.items ≡ bytes_of (aligned (bits_of_fields

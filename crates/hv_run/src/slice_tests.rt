@@ -1,5 +1,6 @@
-// What no clause says: that units come out where there is memory, and the bytes of known ones. The
-// bytes are those of another encoder, written by another hand, whose streams two decoders accept.
+//! What no clause says: that units come out where there is memory, and the bytes of known ones. The
+//! bytes are those of another encoder, written by another hand, whose streams two decoders accept.
+
 ghost use Rattle.std.specs.Prelude.{◌≡◌};
 
 use crate::serial::{parameter_sets, picture_unit};

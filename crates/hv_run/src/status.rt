@@ -1,4 +1,5 @@
-// How the top call ends.
+//! How the top call ends.
+
 ghost use Rattle.std.specs.Prelude.{◌≡◌};
 
 /// How the top call ends. The status of a program is its `code`. Each status has a line in the report.

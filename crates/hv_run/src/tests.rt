@@ -1,5 +1,6 @@
-// What no clause says: that an encoding ends well where there is memory, and the bytes of a known
-// stream, which come from outside.
+//! What no clause says: that an encoding ends well where there is memory, and the bytes of a known
+//! stream, which come from outside.
+
 use crate::{Status, run_encode};
 use hv_types::{
     Failed, MemorySink, MemorySource, NoMemory, OpenGate, Sink, Source, SteadySink, SteadySource,

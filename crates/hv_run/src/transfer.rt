@@ -1,4 +1,5 @@
-// Whole transfers from a source and to a sink, which move as much a call as they like.
+//! Whole transfers from a source and to a sink, which move as much a call as they like.
+
 ghost use Rattle.std.specs.Prelude.{◌≡◌, ℕ, ◌+◌, ◌<◌, ◌≤◌, List, [], Some, length, drop, IfOk, OnOk, OnErr};
 ghost use Rattle.hv_types.specs.Outside.{Fills, Rises};
 ghost use Rattle.hv_run.specs.Transfers.{StopsShort, EndsAfter, PutsPart};

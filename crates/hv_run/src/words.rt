@@ -1,4 +1,5 @@
-// The words of the command line.
+//! The words of the command line.
+
 ghost use Rattle.std.specs.Prelude.{◌≡◌, ◌+◌, ◌<◌, [], length, min, Some, None, IfOk, IfErr, slice_index_or};
 ghost use Rattle.hv_run.specs.CommandLine.{AsksFor, refusal, is_accepted, settings_of, number_of_word, option_value, settings_of_six, refusal_of_settings};
 
@@ -28,7 +29,7 @@ pub fn config_of_words(words: &Words) -> Result<Config, WordsError>
     }
 }
 
-// Tests settings, and that they are built so far.
+/// Tests settings, and that they are built so far.
 fn checked(settings: Settings) -> Result<Config, WordsError>
     ensures ok { IfOk result (λ config.
         (config ≡ settings) × (refusal_of_settings (Some settings) ≡ None)) }
@@ -41,7 +42,7 @@ fn checked(settings: Settings) -> Result<Config, WordsError>
     }
 }
 
-// What the program is built for so far: see the definition.
+/// What the program is built for so far: see the definition.
 fn is_built(settings: &Settings) -> bool
     ensures { result ≡ is_accepted settings.now }
 {
@@ -52,7 +53,7 @@ fn is_built(settings: &Settings) -> bool
         && settings.synth.is_none()
 }
 
-// The settings that the words ask for, or `None` where they are no command line.
+/// The settings that the words ask for, or `None` where they are no command line.
 pub fn settings_of_words(words: &Words) -> Option<Settings>
     ensures { result ≡ settings_of words.now }
 {
@@ -69,7 +70,7 @@ pub fn settings_of_words(words: &Words) -> Option<Settings>
     )
 }
 
-// The settings with these values, where all are there.
+/// The settings with these values, where all are there.
 fn settings_of_values(
     width: Option<u32>,
     height: Option<u32>,
@@ -94,14 +95,14 @@ fn settings_of_values(
     })
 }
 
-// A value above 255 stands as 255.
+/// A value above 255 stands as 255.
 fn byte(value: u32) -> u8
     ensures { result ≡ min value 255 }
 {
     value.min(255) as u8
 }
 
-// The value of an option that stands at a place among the words.
+/// The value of an option that stands at a place among the words.
 fn value_behind(words: &Words, at: u32, option: &str) -> Option<u32>
     requires few { at < 12 }
     requires there { at + 1 < length words.now }
@@ -115,7 +116,7 @@ fn value_behind(words: &Words, at: u32, option: &str) -> Option<u32>
     }
 }
 
-// The number of one to ten decimal digits, where it is below 2^32.
+/// The number of one to ten decimal digits, where it is below 2^32.
 fn number(word: &str) -> Option<u32>
     ensures { result ≡ number_of_word word.now }
 {

@@ -1,4 +1,5 @@
-// slice_segment_header, field by field.
+//! slice_segment_header, field by field.
+
 ghost use Rattle.std.specs.Prelude.{◌≡◌, ◌≤◌, ◌<◌, ◌%◌, true, false, map, ◌∷◌, [], ◌++◌, length};
 ghost use Rattle.std.specs.List.{list_all};
 ghost use Rattle.hv_types.specs.declared.bins.SliceKind.TheVariants.{P};
@@ -40,7 +41,7 @@ pub fn write_slice_header(
     writer.trail();
 }
 
-// A structure is of at most 64 pictures, with at most 3 temporal levels.
+/// A structure is of at most 64 pictures, with at most 3 temporal levels.
 fn check_ranges(structure: &Structure)
     ensures count { structure.now.count ≤ 64 }
     ensures levels { structure.now.levels ≤ 3 }
@@ -49,8 +50,8 @@ fn check_ranges(structure: &Structure)
     structure.levels();
 }
 
-// slice_segment_header of a picture of a group of this structure, where the video's quantiser is
-// `base`.
+/// slice_segment_header of a picture of a group of this structure, where the video's quantiser is
+/// `base`.
 fn put_slice(writer: &mut BitWriter, structure: &Structure, picture: u8, base: u8)
     requires picture { picture < structure.now.count }
     requires base { base ≤ 51 }
@@ -77,7 +78,7 @@ fn put_slice(writer: &mut BitWriter, structure: &Structure, picture: u8, base: u
     }
 }
 
-// slice_segment_header (7.3.6.1) of an IDR picture of this quantiser.
+/// slice_segment_header (7.3.6.1) of an IDR picture of this quantiser.
 #[rattlefmt::skip]
 fn idr_slice(qp: u8) -> [Field; 7]
     requires { qp ≤ 51 }
@@ -95,7 +96,7 @@ fn idr_slice(qp: u8) -> [Field; 7]
     ]
 }
 
-// slice_segment_header of a P picture with these entries before it and after it in output order.
+/// slice_segment_header of a P picture with these entries before it and after it in output order.
 fn put_p_slice(writer: &mut BitWriter, picture: u8, before: &[SetEntry], after: &[SetEntry], qp: u8)
     requires { IsAllowedSlice 3 (header_with picture before.now after.now qp) }
     ensures { Appends writer.old writer.new
@@ -107,7 +108,7 @@ fn put_p_slice(writer: &mut BitWriter, picture: u8, before: &[SetEntry], after: 
     put_fields(writer, &p_end(used_count(before) + used_count(after), qp));
 }
 
-// slice_segment_header of a P picture, before its reference set.
+/// slice_segment_header of a P picture, before its reference set.
 #[rattlefmt::skip]
 fn p_start(picture: u8) -> [Field; 5]
     ensures value { map field_of result ≡
@@ -123,7 +124,7 @@ fn p_start(picture: u8) -> [Field; 5]
     ]
 }
 
-// slice_segment_header of a P picture, behind its reference set, of which it uses so many pictures.
+/// slice_segment_header of a P picture, behind its reference set, of which it uses so many pictures.
 #[rattlefmt::skip]
 fn p_end(used: u32, qp: u8) -> [Field; 6]
     requires some { 1 ≤ used }

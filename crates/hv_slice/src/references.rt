@@ -1,4 +1,5 @@
-// The reference set of a slice header (7.3.7), and how many of its pictures are used.
+//! The reference set of a slice header (7.3.7), and how many of its pictures are used.
+
 ghost use Rattle.std.specs.Prelude.{◌≡◌, ◌≤◌, ◌<◌, length, take};
 ghost use Rattle.hv_bits.specs.Writing.{Appends};
 ghost use Rattle.hv_stream_model.specs.Fields.{bits_of_fields};
@@ -63,7 +64,7 @@ pub fn used_count(side: &[SetEntry]) -> u32
     used
 }
 
-// One side of a set: each picture by how much farther it is than the one before it.
+/// One side of a set: each picture by how much farther it is than the one before it.
 fn put_side(writer: &mut BitWriter, side: &[SetEntry])
     requires { Rise 0 (side_of side.now) }
     ensures { Appends writer.old writer.new (bits_of_fields (side_fields 0 (side_of side.now))) }

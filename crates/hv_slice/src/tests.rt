@@ -1,6 +1,7 @@
-// What no clause says: that headers come out where there is memory, and the bytes of known ones.
-// The bytes are those of another encoder, written by another hand, whose streams two decoders
-// accept; where its groups end before ten pictures, the others are worked by hand.
+//! What no clause says: that headers come out where there is memory, and the bytes of known ones.
+//! The bytes are those of another encoder, written by another hand, whose streams two decoders
+//! accept; where its groups end before ten pictures, the others are worked by hand.
+
 ghost use Rattle.std.specs.Prelude.{◌<◌, length};
 
 use crate::write_slice_header;

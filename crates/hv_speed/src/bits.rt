@@ -5,7 +5,7 @@ use hv_bits::{BitWriter, strip_nal, write_nal};
 use hv_types::NoMemory;
 use std::alloc::Global;
 
-// Of so many bytes one goes into the sum.
+/// Of so many bytes one goes into the sum.
 const SAMPLED: usize = 256;
 
 #[derive(Clone, Copy, PartialEq, Eq)]

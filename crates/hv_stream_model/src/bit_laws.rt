@@ -1,4 +1,5 @@
-// Laws of bits and the bytes that they make.
+//! Laws of bits and the bytes that they make.
+
 ghost use Rattle.hv_stream_model.specs.BitLaws.{BytesAppend, BitsComeBack, BytesComeBack, BitsComeBackFilled};
 
 /// Bytes are made of whole bytes of bits and of what comes behind them, each by itself.

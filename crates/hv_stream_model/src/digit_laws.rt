@@ -1,4 +1,5 @@
-// Laws of binary digits, and of the numbers, bits and bytes that they make.
+//! Laws of binary digits, and of the numbers, bits and bytes that they make.
+
 ghost use Rattle.hv_stream_model.specs.DigitLaws.{CountOfDigits, DigitsAreSplit, HighPartIsUnseen, RemainderIsEnough, PairsAreJoined, DigitsOfZero, HighestDigit, NumberOfDigits, NumberIsSplit, NumberIsBounded, DigitsOfNumber, BitsAreJoined, EightABytes, BytesGiveBits, BitsBehindBytes, BitsOfNumber, FrontOfBits, RestOfBits, JoinedBytes, BytesOfNumber};
 
 /// The binary digits of a number: how many there are, and which parts of the number they show.

@@ -1,4 +1,5 @@
-// What is written as the bits of fields is read back exactly.
+//! What is written as the bits of fields is read back exactly.
+
 ghost use Rattle.hv_stream_model.specs.FieldLaws.{FieldsAreReadBack, AlignedBitsAreWhole, AlignedBytesEnd, CodesOfLength, ZerosAreCounted, PaddingOfLength, LastIsLast, JoinedFieldsHaveJoinedBits};
 
 /// What a script reads where fields answer it that their descriptors can code (7.2, 9.2), it reads

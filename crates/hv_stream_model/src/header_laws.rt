@@ -1,4 +1,5 @@
-// What is read of a header is what its table was made with.
+//! What is read of a header is what its table was made with.
+
 ghost use Rattle.hv_stream_model.specs.HeaderLaws.{SignedComesBack, SizesAreAllowed, VideoParametersAreRead, SequenceParametersAreRead, PictureParametersAreRead, SliceHeadersAreRead, VideoParametersAreCodable, SequenceParametersAreCodable, PictureParametersAreCodable, SliceHeadersAreCodable, OtherSlicesAreRead, OtherSlicesAreCodable, SlicesOfGroupsAreAllowed, BitsDetermineFields};
 
 /// The signed number of a codeNum (9.2.2) is the one whose codeNum it is.

@@ -1,4 +1,5 @@
-// The units of a byte stream.
+//! The units of a byte stream.
+
 ghost use Rattle.hv_stream_model.specs.StreamLaws.{StreamsHaveOneList, FoundUnitsMakeTheStream};
 
 /// A byte stream (Annex B) has at most one list of units.

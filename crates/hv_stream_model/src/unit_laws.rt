@@ -1,4 +1,5 @@
-// What is written as NAL units is read back exactly.
+//! What is written as NAL units is read back exactly.
+
 ghost use Rattle.hv_stream_model.specs.UnitLaws.{PayloadsComeBack, StreamsAreReadBack, UnitsMakeAStream};
 
 /// A payload with its emulation prevention bytes (7.3.1.1) is the payload again once they are left

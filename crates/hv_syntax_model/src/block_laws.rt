@@ -1,4 +1,5 @@
-// What is read of the bins of slice data is what was coded.
+//! What is read of the bins of slice data is what was coded.
+
 ghost use Rattle.hv_syntax_model.specs.BlockLaws.{CodingTreeUnitsAreRead, SliceDataIsReadBack, SitesAreThere};
 
 /// At each coding tree block the script of a coding tree unit (7.3.8.2) reads the unit from its

@@ -1,4 +1,5 @@
-// The angles of intra prediction, as the standard prints them.
+//! The angles of intra prediction, as the standard prints them.
+
 ghost use Rattle.std.specs.Prelude.{◌≡◌, ◌≤◌};
 ghost use Rattle.std.specs.Int.RustNames.{unsigned_abs};
 ghost use Rattle.hv_tables.specs.Angles.{intraPredAngle, invAngle};

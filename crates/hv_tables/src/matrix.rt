@@ -6,7 +6,7 @@
 ghost use Rattle.hv_tables.specs.Tables.{HasEntries};
 ghost use Rattle.hv_tables.specs.TransformMatrix.{transMatrix};
 
-// Row k is basis function k of 4 samples.
+/// Row k is basis function k of 4 samples.
 #[rattlefmt::skip]
 static ROWS_4: [[i8; 4]; 4] = [
     /*  0 */ [ 64,  64,  64,  64],
@@ -15,7 +15,7 @@ static ROWS_4: [[i8; 4]; 4] = [
     /*  3 */ [ 36, -83,  83, -36],
 ];
 
-// Row k is basis function k of 8 samples.
+/// Row k is basis function k of 8 samples.
 #[rattlefmt::skip]
 static ROWS_8: [[i8; 8]; 8] = [
     /*  0 */ [ 64,  64,  64,  64,  64,  64,  64,  64],
@@ -28,7 +28,7 @@ static ROWS_8: [[i8; 8]; 8] = [
     /*  7 */ [ 18, -50,  75, -89,  89, -75,  50, -18],
 ];
 
-// Row k is basis function k of 16 samples.
+/// Row k is basis function k of 16 samples.
 #[rattlefmt::skip]
 static ROWS_16: [[i8; 16]; 16] = [
     /*  0 */ [ 64,  64,  64,  64,  64,  64,  64,  64,  64,  64,  64,  64,  64,  64,  64,  64],
@@ -49,7 +49,7 @@ static ROWS_16: [[i8; 16]; 16] = [
     /* 15 */ [  9, -25,  43, -57,  70, -80,  87, -90,  90, -87,  80, -70,  57, -43,  25,  -9],
 ];
 
-// Row k is basis function k of 32 samples.
+/// Row k is basis function k of 32 samples.
 #[rattlefmt::skip]
 static ROWS_32: [[i8; 32]; 32] = [
     /*  0 */ [ 64,  64,  64,  64,  64,  64,  64,  64,  64,  64,  64,  64,  64,  64,  64,  64,
@@ -118,7 +118,7 @@ static ROWS_32: [[i8; 32]; 32] = [
                90, -90,  88, -85,  82, -78,  73, -67,  61, -54,  46, -38,  31, -22,  13,  -4],
 ];
 
-// Row n is sample n of each basis function of 4 samples.
+/// Row n is sample n of each basis function of 4 samples.
 #[rattlefmt::skip]
 static COLUMNS_4: [[i8; 4]; 4] = [
     /*  0 */ [ 64,  83,  64,  36],
@@ -127,7 +127,7 @@ static COLUMNS_4: [[i8; 4]; 4] = [
     /*  3 */ [ 64, -83,  64, -36],
 ];
 
-// Row n is sample n of each basis function of 8 samples.
+/// Row n is sample n of each basis function of 8 samples.
 #[rattlefmt::skip]
 static COLUMNS_8: [[i8; 8]; 8] = [
     /*  0 */ [ 64,  89,  83,  75,  64,  50,  36,  18],
@@ -140,7 +140,7 @@ static COLUMNS_8: [[i8; 8]; 8] = [
     /*  7 */ [ 64, -89,  83, -75,  64, -50,  36, -18],
 ];
 
-// Row n is sample n of each basis function of 16 samples.
+/// Row n is sample n of each basis function of 16 samples.
 #[rattlefmt::skip]
 static COLUMNS_16: [[i8; 16]; 16] = [
     /*  0 */ [ 64,  90,  89,  87,  83,  80,  75,  70,  64,  57,  50,  43,  36,  25,  18,   9],
@@ -161,7 +161,7 @@ static COLUMNS_16: [[i8; 16]; 16] = [
     /* 15 */ [ 64, -90,  89, -87,  83, -80,  75, -70,  64, -57,  50, -43,  36, -25,  18,  -9],
 ];
 
-// Row n is sample n of each basis function of 32 samples.
+/// Row n is sample n of each basis function of 32 samples.
 #[rattlefmt::skip]
 static COLUMNS_32: [[i8; 32]; 32] = [
     /*  0 */ [ 64,  90,  90,  90,  89,  88,  87,  85,  83,  82,  80,  78,  75,  73,  70,  67,

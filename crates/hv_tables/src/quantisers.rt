@@ -3,7 +3,7 @@
 ghost use Rattle.std.specs.Prelude.{◌≡◌, ◌≤◌};
 ghost use Rattle.hv_tables.specs.Quantisers.{chroma_qp, levelScale, quantisation_factor};
 
-// QpC, for qPi from 30 to 43 (Table 8-10, of ChromaArrayType 1).
+/// QpC, for qPi from 30 to 43 (Table 8-10, of ChromaArrayType 1).
 #[rattlefmt::skip]
 static MIDDLE_QUANTISERS: [u8; 14] = [
     // 30 to 36
@@ -12,10 +12,10 @@ static MIDDLE_QUANTISERS: [u8; 14] = [
     34, 35, 35, 36, 36, 37, 37,
 ];
 
-// levelScale, by QP % 6.
+/// levelScale, by QP % 6.
 static LEVEL_SCALES: [u8; 6] = [40, 45, 51, 57, 64, 72];
 
-// About 2^20 by levelScale, by QP % 6.
+/// About 2^20 by levelScale, by QP % 6.
 static FACTORS: [u16; 6] = [26214, 23302, 20560, 18396, 16384, 14564];
 
 /// The quantiser of chroma, from that of luma, 0 to 51 (8.6.1). It is 0 to 45.

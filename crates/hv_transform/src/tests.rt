@@ -47,7 +47,7 @@ fn flat_block(rt: HostRuntime) {
     }
 }
 
-// The greatest differences of samples have the coefficient 32640, alone.
+/// The greatest differences of samples have the coefficient 32640, alone.
 #[test]
 fn greatest_differences(rt: HostRuntime) {
     let mut coefficients = [0i32; 16];
@@ -68,7 +68,7 @@ fn greatest_differences(rt: HostRuntime) {
     assert_eq!(rt; coefficients[1023], 0);
 }
 
-// One basis function, of coefficient 384: the second of the rows by the third of the columns.
+/// One basis function, of coefficient 384: the second of the rows by the third of the columns.
 #[test]
 fn one_basis_function(rt: HostRuntime) {
     let levels = [0i16, 0, 0, 0, 0, 0, 0, 0, 0, 12, 0, 0, 0, 0, 0, 0];
@@ -81,7 +81,7 @@ fn one_basis_function(rt: HostRuntime) {
     assert_eq!(rt; residual.as_slice(), wave.as_slice());
 }
 
-// The first coefficient alone, 640 at each size: a 128th of it everywhere.
+/// The first coefficient alone, 640 at each size: a 128th of it everywhere.
 #[test]
 fn first_coefficient_alone(rt: HostRuntime) {
     assert_eq!(rt;
@@ -102,7 +102,7 @@ fn first_coefficient_alone(rt: HostRuntime) {
     );
 }
 
-// The second coefficient alone, 512 at each size: each row is a 16th of the second of the matrix.
+/// The second coefficient alone, 512 at each size: each row is a 16th of the second of the matrix.
 #[test]
 fn second_coefficient_alone(rt: HostRuntime) {
     let residual = residual_of(&one_level::<16>(1, 16), 2, 4);
@@ -126,7 +126,7 @@ fn second_coefficient_alone(rt: HostRuntime) {
     assert_eq!(rt; residual[992], 6);
 }
 
-// The sums of the columns are clipped, and those of the rows have 16 bits by themselves.
+/// The sums of the columns are clipped, and those of the rows have 16 bits by themselves.
 #[test]
 fn extreme_coefficients(rt: HostRuntime) {
     let residual = residual_of(&[32767; 16], 2, 51);

@@ -1,4 +1,5 @@
-// The two answers without a content.
+//! The two answers without a content.
+
 use std::alloc::{AllocError, AllocFailed};
 
 /// There was not enough memory.

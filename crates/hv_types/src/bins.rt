@@ -1,4 +1,4 @@
-// Bins, and what takes them.
+//! Bins, and what takes them.
 
 /// The kind of a slice (7.4.7.1, `slice_type`).
 #[derive(Clone, Copy, Debug, PartialEq, Eq, Hash)]

@@ -1,4 +1,5 @@
-// The pictures of a group that is to be encoded.
+//! The pictures of a group that is to be encoded.
+
 ghost use Rattle.std.specs.Prelude.{◌≡◌, ◌<◌, ◌≤◌, [], length, IfOk, OnOk, OnErr, slice_get, Some};
 ghost use Rattle.hv_types.specs.Configuration.{picture_bytes};
 ghost use Rattle.hv_types.specs.Video.{picture_of, pad, IsPadded};
@@ -80,7 +81,7 @@ impl GroupInput {
     }
 }
 
-// The picture of these bytes, padded.
+/// The picture of these bytes, padded.
 fn padded_picture(alloc: Global, config: &Config, raw: &[u8]) -> Result<Picture, NoMemory>
     requires { length raw.now ≡ picture_bytes config.now }
     ensures value { IfOk result (λ picture. picture ≡
@@ -113,8 +114,8 @@ mod tests {
     use crate::settings::{Emit, Settings};
     use std::test::Fail;
 
-    // Ten columns and ten rows are padded to sixteen and sixteen, with eight and eight in chroma.
-    // Luma is 0 to 99, Cb 100 to 124 and Cr 150 to 174.
+    /// Ten columns and ten rows are padded to sixteen and sixteen, with eight and eight in chroma.
+    /// Luma is 0 to 99, Cb 100 to 124 and Cr 150 to 174.
     #[test]
     fn ten_by_ten(rt: HostRuntime) -> Result<(), Fail> {
         let config = Config::checked(Settings {

@@ -1,4 +1,5 @@
-// A source and a sink in memory, which move bytes in small steps and fail where they are told to.
+//! A source and a sink in memory, which move bytes in small steps and fail where they are told to.
+
 ghost use Rattle.std.specs.Prelude.{◌≡◌, ◌<◌, ◌≤◌, [], Some, IfOk, OnErr, length};
 ghost use Rattle.hv_types.specs.Outside.{Reads, Writes, Rises};
 ghost use Rattle.hv_types.specs.Memory.{GivesExactly, GivesNothing, TakesExactly, TakesNothing, uncalled};

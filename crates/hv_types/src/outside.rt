@@ -1,4 +1,5 @@
-// What the encoder reads from, writes to, and tells before each piece of work.
+//! What the encoder reads from, writes to, and tells before each piece of work.
+
 ghost use Rattle.std.specs.Prelude.{◌≡◌, ◌<◌, ℕ, List, Option, length, IfOk, OnOk, OnErr};
 ghost use Rattle.hv_types.specs.Outside.{Reads, Writes, Rises};
 

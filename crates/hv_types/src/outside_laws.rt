@@ -1,4 +1,5 @@
-// What several calls of a source or a sink do together.
+//! What several calls of a source or a sink do together.
+
 ghost use Rattle.hv_types.specs.OutsideLaws.{ReadsAreJoined, WritesAreJoined};
 
 /// Reads one behind the other fill a buffer as one read does.

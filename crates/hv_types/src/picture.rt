@@ -1,4 +1,4 @@
-// A picture.
+//! A picture.
 
 use crate::plane::Plane;
 

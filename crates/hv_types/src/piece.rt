@@ -1,4 +1,4 @@
-// Pieces of work.
+//! Pieces of work.
 
 /// What a worker does in a piece of work, in the order of the pipeline.
 #[derive(Clone, Copy, Debug, PartialEq, Eq, Hash)]

@@ -1,4 +1,4 @@
-// A plane of samples.
+//! A plane of samples.
 
 ghost use Rattle.std.specs.Prelude.{◌≡◌, ◌+◌, ◌-◌, ◌*◌, ◌/◌, ◌^◌, ◌<◌, ◌≤◌, ◌++◌, length, IfOk, OnOk, vec_len};
 ghost use Rattle.hv_types.specs.Samples.{lengthened};
@@ -15,14 +15,14 @@ pub(crate) struct Sides {
 }
 
 impl Sides {
-    // How many samples a plane of these sides has.
+    /// How many samples a plane of these sides has.
     pub(crate) fn samples(self) -> usize
         ensures { result ≡ self.width * self.height }
     {
         self.width as usize * self.height as usize
     }
 
-    // Half of each side.
+    /// Half of each side.
     pub(crate) fn halved(self) -> Self
         ensures width { result.width ≡ self.width / 2 }
         ensures height { result.height ≡ self.height / 2 }
@@ -70,8 +70,8 @@ impl Plane {
         })
     }
 
-    // The plane of the sides `to` whose upper left part is these samples by rows, of the sides
-    // `from`: the last column is repeated, and then the last row.
+    /// The plane of the sides `to` whose upper left part is these samples by rows, of the sides
+    /// `from`: the last column is repeated, and then the last row.
     pub(crate) fn padded(
         alloc: Global,
         samples: &[u8],
@@ -149,7 +149,7 @@ impl Plane {
     }
 }
 
-// Appends a row and then its last sample until `columns` are there.
+/// Appends a row and then its last sample until `columns` are there.
 fn append_row(samples: &mut Vec<u8>, row: &[u8], columns: usize) -> Result<(), NoMemory>
     requires some { 0 < length row.now }
     requires within { length row.now ≤ columns }

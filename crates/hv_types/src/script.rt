@@ -1,4 +1,5 @@
-// Which calls of a source or a sink in memory fail.
+//! Which calls of a source or a sink in memory fail.
+
 ghost use Rattle.std.specs.Prelude.{◌≡◌};
 ghost use Rattle.hv_types.specs.Outside.{Rises};
 ghost use Rattle.hv_types.specs.Memory.{uncalled, is_failing, after_ok, after_fault};
@@ -34,21 +35,21 @@ impl Script {
         }
     }
 
-    // Whether the next call is one of those that fail.
+    /// Whether the next call is one of those that fail.
     pub(crate) fn is_failing(&self) -> bool
         ensures { result ≡ is_failing self.now }
     {
         self.failing.contains(&self.calls)
     }
 
-    // Counts a call that doesn't fail.
+    /// Counts a call that doesn't fail.
     pub(crate) fn count(&mut self)
         ensures { self.new ≡ after_ok self.old }
     {
         self.calls = self.calls.saturating_add(1);
     }
 
-    // Counts a call that fails.
+    /// Counts a call that fails.
     pub(crate) fn count_fault(&mut self)
         ensures after { self.new ≡ after_fault self.old }
         ensures rises { Rises self.old.faults self.new.faults }

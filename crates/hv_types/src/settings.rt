@@ -1,4 +1,5 @@
-// What an encoding is asked to do.
+//! What an encoding is asked to do.
+
 ghost use Rattle.std.specs.Prelude.{◌≡◌, ◌≤◌, ◌<◌, ◌%◌, ◌*◌, None, Some, IfOk, IfErr};
 ghost use Rattle.hv_types.specs.Configuration.{fault_of, padded_width, padded_height, columns, rows, picture_bytes, field_out_of_range, IsValid};
 
@@ -168,7 +169,7 @@ impl Config {
     }
 }
 
-// The first test that the settings fail.
+/// The first test that the settings fail.
 fn first_fault(settings: &Settings) -> Option<ConfigError>
     ensures { result ≡ fault_of settings.now }
 {
@@ -188,7 +189,7 @@ fn first_fault(settings: &Settings) -> Option<ConfigError>
     }
 }
 
-// The first field that is out of its range.
+/// The first field that is out of its range.
 fn first_field(settings: &Settings) -> Option<Field>
     ensures { result ≡ field_out_of_range settings.now }
 {
@@ -220,7 +221,7 @@ mod tests {
     use super::*;
     use std::test::Fail;
 
-    // Settings of this size whose other fields are in their ranges.
+    /// Settings of this size whose other fields are in their ranges.
     fn of_size(width: u32, height: u32, group: u8) -> Settings {
         Settings {
             width,

@@ -1,4 +1,5 @@
-// What holds of settings without a fault.
+//! What holds of settings without a fault.
+
 ghost use Rattle.hv_types.specs.SettingsLaws.{FaultlessIsValid, LeastBytes, MostBytes};
 
 /// Settings without a fault are in all ranges, and a picture of theirs has 96 bytes at least and

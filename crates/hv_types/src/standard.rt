@@ -1,5 +1,6 @@
-// The standard library's readers and writers as a source and a sink. Of the system's own readers
-// and writers no clause says which bytes they move.
+//! The standard library's readers and writers as a source and a sink. Of the system's own readers
+//! and writers no clause says which bytes they move.
+
 ghost use Rattle.std.specs.Prelude.{◌≡◌, ◌<◌, ◌≤◌, IfOk, OnOk, OnErr, IfSome, length, take};
 ghost use Rattle.std.specs.Io.KnownBytes.{ReadConsumes, Appends};
 ghost use Rattle.hv_types.specs.Outside.{Rises};
@@ -115,8 +116,8 @@ impl<W: Write> Sink for StdSink<W> {
     }
 }
 
-// Writes what the writer takes, and flushes: how many bytes, or `None` where it takes none or one
-// of the two fails.
+/// Writes what the writer takes, and flushes: how many bytes, or `None` where it takes none or one
+/// of the two fails.
 fn write_through<W: Write>(writer: &mut W, piece: &[u8]) -> Option<usize>
     ensures some { IfSome result (λ count. 0 < count) }
     ensures there { IfSome result (λ count. count ≤ length piece.now) }

@@ -1,4 +1,5 @@
-// A source and a sink that never fail.
+//! A source and a sink that never fail.
+
 ghost use Rattle.std.specs.Prelude.{◌≡◌, ◌<◌, Some, Ok, min, length, IfOk, IsOk};
 ghost use Rattle.hv_types.specs.Outside.{Reads};
 

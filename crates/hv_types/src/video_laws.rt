@@ -1,5 +1,6 @@
-// What holds of padding, of cropping, and of pictures in a row of bytes. No function here does
-// anything: each contract names a law, which is thereby proved.
+//! What holds of padding, of cropping, and of pictures in a row of bytes. No function here does
+//! anything: each contract names a law, which is thereby proved.
+
 ghost use Rattle.hv_types.specs.VideoLaws.{TabulateCounts, CropUndoesPad, PadGivesPicture, CountsRaw, FrontIsPicture, PicturesReadBack, BytesAreSplit, KeepBytes};
 
 /// What is shown of a padded picture is the picture.

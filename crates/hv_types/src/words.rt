@@ -1,4 +1,5 @@
-// The words of a command line.
+//! The words of a command line.
+
 ghost use Rattle.std.specs.Prelude.{◌≡◌, ◌<◌, ◌-◌, ◌^◌, ◌++◌, ◌∷◌, [], Some, length, map, string_bytes, slice_get, OnOk, OnErr};
 
 use crate::NoMemory;

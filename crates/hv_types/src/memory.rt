@@ -2,7 +2,7 @@
 
 ghost use Rattle.std.specs.Prelude.{◌≡◌, ◌<◌, ◌≤◌, [], Some, IfOk, OnErr, length};
 ghost use Rattle.hv_types.specs.Outside.{Reads, Writes, Rises};
-ghost use Rattle.hv_types.specs.Memory.{GivesExactly, GivesNothing, TakesExactly, TakesNothing, uncalled};
+ghost use Rattle.hv_types.specs.Memory.{GivesExactly, GivesNothing, TakesExactly, TakesNothing, uncalled_script};
 
 use crate::script::Script;
 use crate::{Failed, NoMemory, Sink, Source};
@@ -41,7 +41,7 @@ impl MemorySource {
         requires { 1 ≤ at_most }
         ensures bytes { result.left ≡ bytes.items }
         ensures at_most { result.at_most ≡ at_most }
-        ensures script { result.script ≡ uncalled failing.items }
+        ensures script { result.script ≡ uncalled_script failing.items }
     {
         MemorySource {
             bytes,
@@ -67,7 +67,7 @@ impl Source for MemorySource {
         ensures reads { IfOk result (Reads (Some self.old.left) (Some self.new.left) into.new) }
         ensures err { OnErr result (GivesNothing self.old self.new) }
         ensures fault { OnErr result (Rises self.old.script.faults self.new.script.faults) }
-        ensures kept { OnErr result (into.new ≡ into.old) }
+        ensures untouched { OnErr result (into.new ≡ into.old) }
     {
         if self.script.is_failing() {
             self.script.count_fault();
@@ -113,12 +113,17 @@ impl Model for MemorySink {
 impl MemorySink {
     /// A sink with room for `room` bytes, which it takes from `alloc` at once. A call takes at
     /// most `at_most` bytes, and the calls whose numbers, from 0, are in `failing` fail.
-    pub fn new(alloc: Global, room: u32, at_most: u32, failing: Vec<u64>) -> Result<Self, NoMemory>
+    pub fn new(
+        alloc: Global,
+        room: u32,
+        at_most: u32,
+        failing: Vec<u64>,
+    ) -> Result<Self, NoMemory>
         requires { 1 ≤ at_most }
         ensures empty { IfOk result (λ sink. sink.written ≡ []) }
         ensures room { IfOk result (λ sink. sink.room ≡ room) }
         ensures at_most { IfOk result (λ sink. sink.at_most ≡ at_most) }
-        ensures script { IfOk result (λ sink. sink.script ≡ uncalled failing.items) }
+        ensures script { IfOk result (λ sink. sink.script ≡ uncalled_script failing.items) }
     {
         Ok(MemorySink {
             bytes: Vec::with_capacity(alloc, room as usize)?,

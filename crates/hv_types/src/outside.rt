@@ -13,9 +13,9 @@ pub trait Source {
     /// How many reads have failed. A counter of 64 bits stays at its last value.
     ghost faults: { Self → ℕ };
 
-    /// Reads at least one byte to the front of `into`, and at most its length. `Ok(0)` is the end of
-    /// the input; a source that tells its bytes answers it there alone. What lies behind the bytes
-    /// read may be any.
+    /// Reads at least one byte to the front of `into`, and at most its length. `Ok(0)` is the end
+    /// of the input; a source that tells its bytes answers it there alone. What lies behind the
+    /// bytes read may be any.
     fn read(&mut self, into: &mut [u8]) -> Result<usize, Failed>
         requires { 0 < length into.old }
         ensures ok { IfOk result (λ n. Reads (left self.old) (left self.new) into.new n) }

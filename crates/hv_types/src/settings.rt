@@ -72,9 +72,14 @@ pub enum ConfigError {
     OutOfRange { field: Field },
 }
 
-const GROUP_SAMPLES: u64 = 1 << 28;
+/// The most temporal levels above the lowest.
+pub const MOST_LEVELS: u8 = 3;
 
-const MOST_PICTURES: u32 = 400_000;
+/// The most pictures of a video.
+pub const MOST_PICTURES: u32 = 400_000;
+
+/// The most luma samples of a group.
+const MOST_GROUP_SAMPLES: u64 = 1 << 28;
 
 /// Settings that pass every test of `Config::checked`. Contracts see the settings.
 #[derive(Clone, Copy, Debug, PartialEq, Eq, Hash)]
@@ -139,7 +144,8 @@ impl Config {
         self.settings.height.div_ceil(8) * 8
     }
 
-    /// The number of coding tree blocks in a row of a padded picture (`PicWidthInCtbsY`, 7.4.3.2).
+    /// The number of coding tree blocks in a row of a padded picture (`PicWidthInCtbsY`,
+    /// 7.4.3.2).
     pub fn columns(&self) -> u32
         ensures value { result ≡ columns self.now }
         ensures least { 1 ≤ result }
@@ -180,7 +186,7 @@ fn first_fault(settings: &Settings) -> Option<ConfigError>
         return Some(ConfigError::SizeRange);
     }
     let picture = u64::from(settings.width) * u64::from(settings.height);
-    if picture * u64::from(settings.group) > GROUP_SAMPLES {
+    if picture * u64::from(settings.group) > MOST_GROUP_SAMPLES {
         return Some(ConfigError::GroupTooLarge);
     }
     match first_field(settings) {
@@ -199,7 +205,7 @@ fn first_field(settings: &Settings) -> Option<Field>
     };
     if settings.qp > 51 {
         Some(Field::Qp)
-    } else if settings.levels > 3 {
+    } else if settings.levels > MOST_LEVELS {
         Some(Field::Levels)
     } else if settings.group < 1 || settings.group > 64 {
         Some(Field::Group)

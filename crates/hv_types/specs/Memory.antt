@@ -68,3 +68,13 @@ pub record TakesExactly (before now : Taker) (piece : List ℕ) (n : ℕ) : Type
 pub record TakesNothing (before now : Taker) : Type 0 where
   pub due : is_failing before.script ≡ false → before.room ≤ length before.written
   pub after : now ≡ record before { script = after_fault before.script }
+
+-- The end was asked for, and came through or failed: then its number is one of those that fail. It
+-- left the bytes written.
+pub record EndsWell (before now : Taker) : Type 0 where
+  pub due : is_failing before.script ≡ false
+  pub after : now ≡ record before { script = after_ok before.script }
+
+pub record EndsBadly (before now : Taker) : Type 0 where
+  pub due : is_failing before.script ≡ true
+  pub after : now ≡ record before { script = after_fault before.script }

@@ -14,6 +14,7 @@ mod plane;
 mod script;
 mod settings;
 mod standard;
+mod standard_output;
 mod steady;
 mod words;
 
@@ -34,5 +35,6 @@ pub use settings::{
     Config, ConfigError, Emit, Field, MOST_LEVELS, MOST_PICTURES, Settings, SynthSpec,
 };
 pub use standard::{StdSink, StdSource};
+pub use standard_output::StandardOutput;
 pub use steady::{SteadySink, SteadySource};
 pub use words::Words;

@@ -39,6 +39,13 @@ pub trait Sink {
         ensures no_fault { OnOk result (faults self.new ≡ faults self.old) }
         ensures err { OnErr result (written self.new ≡ written self.old) }
         ensures fault { OnErr result (Rises (faults self.old) (faults self.new)) };
+
+    /// Asks, behind the last write, whether what was written came through, as far as the sink can
+    /// know. It writes nothing.
+    fn end(&mut self) -> Result<(), Failed>
+        ensures same { written self.new ≡ written self.old }
+        ensures no_fault { OnOk result (faults self.new ≡ faults self.old) }
+        ensures fault { OnErr result (Rises (faults self.old) (faults self.new)) };
 }
 
 /// What each worker tells before it performs a piece, outside of any lock. Several threads may

@@ -1,7 +1,7 @@
 //! What an encoding is asked to do.
 
 ghost use Rattle.std.specs.Prelude.{◌≡◌, ◌≤◌, ◌<◌, ◌%◌, ◌*◌, None, Some, IfOk, IfErr};
-ghost use Rattle.hv_types.specs.Configuration.{fault_of, padded_width, padded_height, columns, rows, picture_bytes, field_out_of_range, IsValid};
+ghost use Rattle.hv_types.specs.Configuration.{fault_of, padded_width, padded_height, columns, rows, picture_bytes, picture_bytes_of, field_out_of_range, IsValid};
 
 use std::marker::Model;
 
@@ -169,10 +169,19 @@ impl Config {
         ensures least { 96 ≤ result }
         ensures most { result ≤ 13369344 }
     {
-        let width = u64::from(self.settings.width);
-        let height = u64::from(self.settings.height);
-        width * height + 2 * (width / 2 * (height / 2))
+        bytes_of_sides(self.settings.width, self.settings.height)
     }
+}
+
+/// The number of bytes of one raw picture of these sides: 4:2:0, a byte a sample.
+fn bytes_of_sides(width: u32, height: u32) -> u64
+    requires wide { width ≤ 4096 }
+    requires high { height ≤ 2176 }
+    ensures { result ≡ picture_bytes_of width height }
+{
+    let width = u64::from(width);
+    let height = u64::from(height);
+    width * height + 2 * (width / 2 * (height / 2))
 }
 
 /// The first test that the settings fail.

@@ -2,10 +2,8 @@
 use Rattle.std.proofs.Common.{◌≡◌, ℕ, zero, suc, ◌+◌, ◌-◌, ◌*◌, ◌/◌, ◌^◌, ◌<◌, ◌≤◌, ◌∙◌, ◌%◌, sym, ap, subst, true, false, refl, List, [], ◌∷◌, ◌++◌, arith, cond, nat_lt}
 use Rattle.std.proofs.lemmas.List.{append_assoc, append-nil}
 use Rattle.std.proofs.lemmas.Bool.Decides.{nat_tests}
+use Rattle.hv_lemmas.proofs.ComparisonLemmas.{lt_not_below}
 use Rattle.hv_group_model.specs.Structure.{Coded, coded, halves, blocks, multiples, anchors}
-
-not_below : (a b : ℕ) → b ≤ a → nat_lt a b ≡ false
-not_below a b e = grind (arith, nat_tests, e)
 
 abbrev pub between : ℕ → ℕ → ℕ → ℕ → List Coded
 between levels low high depth =
@@ -16,7 +14,7 @@ between levels low high depth =
 halves_more : (levels low high depth : ℕ) → 2 ≤ high - low →
     halves (suc levels) low high depth ≡ between levels low high depth
 halves_more levels low high depth wide =
-    ap (λ t. cond t [] (between levels low high depth)) (not_below (high - low) 2 wide)
+    ap (λ t. cond t [] (between levels low high depth)) (lt_not_below (high - low) 2 wide)
 
 pub halves_split : (levels low high depth : ℕ) → 0 < levels → 2 ≤ high - low →
     halves levels low high depth ≡ between (levels - 1) low high depth
@@ -94,7 +92,7 @@ anchors_first count levels some =
     let rest : List ℕ = multiples ((count - 2) / step) step step ++ (count - 1) ∷ [] in
     let from : 0 * step + step ≡ step = omega arith in
     let all : (count - 2) / step - 0 ≡ (count - 2) / step = omega arith in
-    ap (λ t. cond t [] rest) (not_below count 2 some)
+    ap (λ t. cond t [] rest) (lt_not_below count 2 some)
     ∙ sym (ap (λ f. multiples ((count - 2) / step - 0) f step ++ (count - 1) ∷ []) from
     ∙ ap (λ n. multiples n step step ++ (count - 1) ∷ []) all)
 

@@ -6,7 +6,9 @@ use Rattle.std.specs.List.{list_all}
 use Rattle.hv_group_model.specs.Structure.{Coded, coded, coding, place_in, falling, rising}
 use Rattle.hv_decision.specs.declared.row.Life.{Life}
 use Rattle.hv_decision.specs.Sets.{life_in, is_kept_at}
-use Rattle.hv_decision.proofs.ListLemmas.{all_at, all-map, below_all, rising_at, length-rising}
+use Rattle.hv_lemmas.proofs.ComputedLemmas.{holds_at}
+use Rattle.hv_group_model.proofs.NumberListLemmas.{below_all, rising_at, length-rising}
+use Rattle.hv_decision.proofs.ListLemmas.{all-map}
 
 -- how many of these lives are kept at a place
 unfoldable pub kept_count : ℕ → List Life → ℕ
@@ -43,7 +45,7 @@ in_range p count from n all above below =
     let at : slice_index_or (rising n from) (count - from) 0 ≡ count =
     rising_at n from (count - from) 0 (omega arith) ∙ omega arith in
     let long : length (rising n from) ≡ n = length-rising n from in
-    sym (ap p at) ∙ all_at p (rising n from) (count - from) 0 all (omega arith)
+    sym (ap p at) ∙ holds_at p (rising n from) (count - from) 0 all (omega arith)
 
 -- a test that holds of each count, in two parts, so that neither takes too many steps
 pub each_count : (p : ℕ → Bool) (count : ℕ) → list_all p (rising 40 1) ≡ true →
@@ -124,7 +126,7 @@ depth-le count levels place some most few below =
     let s = sound count levels some most few in
     let long = s.long in
     let low' : (slice_index_or (coding count levels) place (coded 0 0 [])).depth < levels + 2 =
-    ltb-true _ _ (all_at (λ c. nat_lt c.depth (levels + 2)) (coding count levels) place (coded 0 0 []) s.depths
+    ltb-true _ _ (holds_at (λ c. nat_lt c.depth (levels + 2)) (coding count levels) place (coded 0 0 []) s.depths
     (omega (arith, long))) in
     omega arith
 
@@ -133,5 +135,5 @@ pub picture-lt : (count levels place : ℕ) → 1 ≤ count → count ≤ 64 →
 picture-lt count levels place some most few below =
     let s = sound count levels some most few in
     let long = s.long in
-    ltb-true _ _ (all_at (λ c. nat_lt c.picture count) (coding count levels) place (coded 0 0 []) s.pictures
+    ltb-true _ _ (holds_at (λ c. nat_lt c.picture count) (coding count levels) place (coded 0 0 []) s.pictures
     (omega (arith, long)))

@@ -4,7 +4,8 @@ use Rattle.std.proofs.lemmas.Bool.{and_parts, cases_lt, ltb-true}
 use Rattle.std.specs.List.{list_all}
 use Rattle.hv_group_model.specs.Structure.{Coded, coded, coding, place_in, falling, rising}
 use Rattle.hv_decision.specs.Orders.{IsOrder, AreOrders}
-use Rattle.hv_decision.proofs.ListLemmas.{all_at, below_all}
+use Rattle.hv_lemmas.proofs.ComputedLemmas.{holds_at}
+use Rattle.hv_group_model.proofs.NumberListLemmas.{below_all}
 use Rattle.hv_decision.proofs.EachStructureLemmas.{each_count, each_levels, place_below, picture-lt}
 
 abbrev coded_at : List Coded → ℕ → Coded
@@ -47,7 +48,7 @@ from_test count levels some most few e =
       picture_of = λ picture below. eqb-true _ _
           (below_all (λ p. nat_eq (coded_at order (place_in order p)).picture p) count picture two.0 below);
       earlier = λ picture below k d inside.
-          ltb-true _ _ (all_at (λ r. nat_lt (place_in order r) (place_in order picture))
+          ltb-true _ _ (holds_at (λ r. nat_lt (place_in order r) (place_in order picture))
           (coded_at order (place_in order picture)).references k d
           (below_all (λ p. list_all (λ r. nat_lt (place_in order r) p) (coded_at order p).references) count
           (place_in order picture) two.1 (place_below count levels picture some most few below)) inside);

@@ -4,14 +4,16 @@ use Rattle.std.specs.List.{list_any}
 use Rattle.std.specs.Int.{abs_diff}
 use Rattle.std.proofs.lemmas.List.{append_assoc, map-append, drop_more, get_or-map, length-map, length-append}
 use Rattle.hv_group_model.specs.Structure.{Coded, coded, Kept, kept, kept_among, is_kept, falling, rising, set_in, set_size, place_in, ReferenceSet}
+use Rattle.hv_group_model.specs.Lives.{until_in}
+use Rattle.hv_group_model.proofs.NumberListLemmas.{length-falling, length-rising, rising_at, rising_push}
+use Rattle.hv_lemmas.proofs.ComparisonLemmas.{zero_lt_suc}
 use Rattle.hv_decision.specs.declared.coded.CodedPicture.{CodedPicture}
 use Rattle.hv_decision.specs.declared.row.Life.{Life}
 use Rattle.hv_decision.specs.declared.row.SetEntry.{SetEntry}
 use Rattle.hv_decision.specs.Coding.{coded_as}
-use Rattle.hv_decision.specs.Sets.{AreLives, life_in, life_before, is_kept_at, kept_by, until_in, entry_before, entry_after, set_entries, OfPicture, row_in}
+use Rattle.hv_decision.specs.Sets.{AreLives, life_in, life_before, is_kept_at, kept_by, entry_before, entry_after, set_entries, OfPicture, row_in}
 use Rattle.hv_decision.proofs.EachStructureLemmas.{kept_count}
-use Rattle.hv_decision.proofs.ListLemmas.{length-rising, rising_at, rising_push}
-use Rattle.hv_decision.proofs.LifeLemmas.{life_from, life_from-more, is_kept-life, some_lt, the_life}
+use Rattle.hv_decision.proofs.LifeLemmas.{life_from, life_from-more, is_kept-life, the_life}
 
 -- ---- lives
 
@@ -38,7 +40,7 @@ life_walk order place picture at d life result some within is e found =
 
 until_none : (later : ℕ) → cond (nat_lt 0 later) (0 + later) 0 ≡ later
 until_none zero = refl
-until_none (suc later) = ap (λ t. cond t (0 + suc later) 0) (some_lt later) ∙ omega arith
+until_none (suc later) = ap (λ t. cond t (0 + suc later) 0) (zero_lt_suc later) ∙ omega arith
 
 pub life_whole : (order : List Coded) (place picture : ℕ) → place ≤ 0 →
     life_from place (drop place order) picture ≡ life_in order picture
@@ -190,12 +192,6 @@ pub kept-kept_by : (order : List CodedPicture) (place picture other : ℕ) (d : 
     kept (map coded_as order) place picture other ≡ kept_by (slice_index_or order place d) picture other
 kept-kept_by order place picture other d below =
     ap (λ (c : Coded). kept_as c picture other) (get_or-map coded_as order place d (coded 0 0 []) below)
-
--- ---- how many
-
-pub length-falling : (n : ℕ) → length (falling n) ≡ n
-length-falling zero = refl
-length-falling (suc n) = ap suc (length-falling n)
 
 -- ---- the walk of the code over the pictures
 

@@ -7,7 +7,7 @@ use Rattle.hv_decision.specs.declared.row.Row.{Row}
 use Rattle.hv_decision.specs.Coding.{coded_as}
 use Rattle.hv_decision.specs.Sets.{row_as, of_picture}
 use Rattle.hv_decision.specs.Structure.{Structure, IsTable}
-use Rattle.hv_decision.proofs.ListLemmas.{length-rising, rising_at}
+use Rattle.hv_group_model.proofs.NumberListLemmas.{length-rising, rising_at}
 use Rattle.hv_decision.proofs.EachStructureLemmas.{length-coding, place_below, picture-lt, depth-le, kept-le}
 use Rattle.hv_decision.proofs.SetLemmas.{set_size-le, length-set_entries}
 

@@ -3,6 +3,7 @@ use Rattle.std.specs.Prelude.{◌≡◌, ℕ, suc, ◌+◌, pos, neg_ℤ, Bool, 
 use Rattle.std.specs.Int.{abs_diff}
 use Rattle.std.specs.List.{list_any}
 use Rattle.hv_group_model.specs.Structure.{rising, Coded, coded, Kept, ReferenceSet, place_in, set_in, coding}
+use Rattle.hv_group_model.specs.Lives.{until_in}
 use Rattle.hv_decision.specs.declared.row.SetEntry.{SetEntry}
 use Rattle.hv_decision.specs.declared.row.Life.{Life}
 use Rattle.hv_decision.specs.declared.row.Row.{Row}
@@ -27,13 +28,6 @@ kept_by c picture other = record {
 -- those after it, the nearest first
 abbrev pub set_entries : ReferenceSet → List SetEntry
 set_entries s = map entry_before s.before ++ map entry_after s.after
-
--- one past the last place whose picture refers to this one, or 0 where none does
-abbrev pub until_in : List Coded → ℕ → ℕ
-until_in [] picture = 0
-until_in (first ∷ rest) picture =
-    let later = until_in rest picture in
-    cond (nat_lt 0 later) (suc later) (cond (list_any (nat_eq picture) first.references) 1 0)
 
 -- the places from that where a picture is coded to the last where it is referred to
 abbrev pub life_in : List Coded → ℕ → Life

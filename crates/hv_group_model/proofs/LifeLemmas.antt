@@ -1,52 +1,19 @@
--- A picture is kept just between the place where it is coded and the last place where it is referred to.
+-- A picture is kept just between the place where it is coded and the last place where it is referred
+-- to: reference picture sets (8.3.2) by the lives of pictures.
 use Rattle.std.proofs.Common.{◌≡◌, ℕ, zero, suc, ◌≤◌, ◌∙◌, sym, ap, ap₂, Bool, true, false, refl, List, [], ◌∷◌, ◌++◌, length, map, arith, cond, take, drop}
 use Rattle.std.specs.Prelude.{nat_eq, nat_lt, ◌&&◌, ◌||◌, flat_map}
 use Rattle.std.specs.Int.{abs_diff}
 use Rattle.std.specs.List.{list_any}
-use Rattle.std.proofs.lemmas.Bool.Decides.{nat_tests}
+use Rattle.hv_lemmas.proofs.ComparisonLemmas.{lt_suc, lt_zero, zero_lt_suc, or_true}
 use Rattle.hv_group_model.specs.Structure.{Coded, Kept, place_in, is_among, is_referred, is_kept, kept, kept_among, references_at}
-
--- one past the last place whose picture refers to this one, or 0 where none does
-abbrev pub until_in : List Coded → ℕ → ℕ
-until_in [] picture = 0
-until_in (first ∷ rest) picture =
-    let later = until_in rest picture in
-    cond (nat_lt 0 later) (suc later) (cond (list_any (nat_eq picture) first.references) 1 0)
-
-pub record Life : Type 0 where
-  pub picture : ℕ
-  pub place : ℕ
-  pub until : ℕ
-
-abbrev pub life_in : List Coded → ℕ → Life
-life_in order picture = record {
-  picture = picture;
-  place = place_in order picture;
-  until = until_in order picture;
-}
-
-abbrev pub is_kept_at : Life → ℕ → Bool
-is_kept_at life place = nat_lt life.place place && nat_lt place life.until
-
-lt_suc : (a b : ℕ) → nat_lt (suc a) (suc b) ≡ nat_lt a b
-lt_suc a b = grind (arith, nat_tests)
-
-lt_zero : (a : ℕ) → nat_lt a 0 ≡ false
-lt_zero a = grind (arith, nat_tests)
-
-some_lt : (a : ℕ) → nat_lt 0 (suc a) ≡ true
-some_lt a = grind (arith, nat_tests)
+pub use Rattle.hv_group_model.specs.Lives.{until_in, Life, life_in, is_kept_at}
 
 among_head : (b : Bool) (n p : ℕ) (rest : Bool) → rest ≡ nat_lt n p →
     (b || rest) ≡ nat_lt (cond b 0 (suc n)) (suc p)
-among_head true n p rest e = sym (some_lt p)
+among_head true n p rest e = sym (zero_lt_suc p)
 among_head false n p rest e = e ∙ sym (lt_suc n p)
 
-or_true : (b : Bool) → (b || true) ≡ true
-or_true true = refl
-or_true false = refl
-
-is_among-take : (order : List Coded) (place picture : ℕ) → place ≤ length order →
+pub is_among-take : (order : List Coded) (place picture : ℕ) → place ≤ length order →
     is_among (take place order) picture ≡ nat_lt (place_in order picture) place
 is_among-take [] zero picture within = refl
 is_among-take [] (suc place) picture within = absurd (omega arith)
@@ -56,19 +23,19 @@ is_among-take (c ∷ order) (suc place) picture within =
     (is_among (take place order) picture) (is_among-take order place picture (omega arith))
 
 -- one past the last place, from that of the rest
-abbrev until_step : Bool → ℕ → ℕ
+abbrev pub until_step : Bool → ℕ → ℕ
 until_step b later = cond (nat_lt 0 later) (suc later) (cond b 1 0)
 
-until_more : (b : Bool) (later : ℕ) → until_step b (suc later) ≡ suc (suc later)
-until_more b later = ap (λ t. cond t (suc (suc later)) (cond b 1 0)) (some_lt later)
+pub until_more : (b : Bool) (later : ℕ) → until_step b (suc later) ≡ suc (suc later)
+until_more b later = ap (λ t. cond t (suc (suc later)) (cond b 1 0)) (zero_lt_suc later)
 
 until_here : (b : Bool) (later : ℕ) (rest : Bool) → rest ≡ nat_lt 0 later →
     (b || rest) ≡ nat_lt 0 (until_step b later)
 until_here true zero rest e = refl
 until_here false zero rest e = e
 until_here b (suc later) rest e =
-    ap (λ t. b || t) (e ∙ some_lt later) ∙ or_true b ∙
-    sym (ap (nat_lt 0) (until_more b later) ∙ some_lt (suc later))
+    ap (λ t. b || t) (e ∙ zero_lt_suc later) ∙ or_true b ∙
+    sym (ap (nat_lt 0) (until_more b later) ∙ zero_lt_suc (suc later))
 
 until_behind : (b : Bool) (later place : ℕ) →
     nat_lt place later ≡ nat_lt (suc place) (until_step b later)
@@ -77,7 +44,7 @@ until_behind false zero place = lt_zero place ∙ sym (lt_zero (suc place))
 until_behind b (suc later) place =
     sym (ap (nat_lt (suc place)) (until_more b later) ∙ lt_suc place (suc later))
 
-is_referred-drop : (order : List Coded) (place picture : ℕ) →
+pub is_referred-drop : (order : List Coded) (place picture : ℕ) →
     is_referred (drop place order) picture ≡ nat_lt place (until_in order picture)
 is_referred-drop [] zero picture = refl
 is_referred-drop [] (suc place) picture = sym (lt_zero (suc place))

@@ -7,7 +7,7 @@ use Rattle.hv_types.specs.declared.settings.Settings.{Settings}
 use Rattle.hv_types.specs.declared.settings.ConfigError.{ConfigError}
 use Rattle.hv_types.specs.declared.settings.Field.{Field}
 use Rattle.hv_types.specs.declared.settings.ConfigError.TheVariants.{OutOfRange}
-use Rattle.hv_types.specs.Configuration.{first_met, or_else, is_odd, is_outside, pictures_asked, field_out_of_range, size_tests, field_tests, fault_of, padded_width, padded_height, columns, rows, picture_bytes, IsValid}
+use Rattle.hv_types.specs.Configuration.{first_met, or_else, most_levels, most_pictures, is_odd, is_outside, pictures_asked, field_out_of_range, size_tests, field_tests, fault_of, padded_width, padded_height, columns, rows, picture_bytes, IsValid}
 
 -- where there is no answer, no test is met
 abbrev AllUnmet : {A : Type 0} → List (Bool × A) → Type 0
@@ -55,7 +55,7 @@ valid s e =
       height_most = height.1;
       group_samples = ltb-false (2 ^ 28) (s.width * s.height * s.group) size.1.1.0;
       qp = (inside 0 51 s.qp field.0).1;
-      levels = (inside 0 3 s.levels field.1.0).1;
+      levels = (inside 0 most_levels s.levels field.1.0).1;
       group_least = (inside 1 64 s.group field.1.1.0).0;
       group_most = (inside 1 64 s.group field.1.1.0).1;
       workers_least = (inside 1 16 s.workers field.1.1.1.0).0;
@@ -63,7 +63,7 @@ valid s e =
       effort = (inside 0 2 s.effort field.1.1.1.1.0).1;
       segment_least = (inside 1 64 s.segment field.1.1.1.1.1.0).0;
       segment_most = (inside 1 64 s.segment field.1.1.1.1.1.0).1;
-      pictures = (inside 0 400000 (pictures_asked s.synth) field.1.1.1.1.1.1.0).1;
+      pictures = (inside 0 most_pictures (pictures_asked s.synth) field.1.1.1.1.1.1.0).1;
     }
 
 -- a padded picture: whole 8x8 blocks, and as few as cover the picture

@@ -1,6 +1,6 @@
 pub mod ConfigurationLemmas
 pub mod GroupLemmas
 pub mod SampleLemmas
-pub mod VideoLemmas
-mod VideoRowLemmas
 pub mod OutsideLemmas
+pub mod VideoLemmas
+mod WorkedVideo

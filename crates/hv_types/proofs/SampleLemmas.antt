@@ -7,7 +7,7 @@ use Rattle.std.proofs.lemmas.Bool.{cases_lt}
 use Rattle.std.proofs.lemmas.List.Elements.{All-append}
 use Rattle.std.specs.Prelude.{All}
 use Rattle.std.proofs.lemmas.List.Edits.{length-between, get_or-between}
-use Rattle.hv_types.specs.Samples.{Plane, IsWhole, IsPlane, HasByteSamples, tabulate, lengthened, sample_at, row_of, with_sample, plane_of, filled, pad_plane, crop_plane}
+use Rattle.hv_types.specs.Samples.{Plane, IsWhole, IsPlane, HasByteSamples, tabulate, lengthened_row, sample_at, row_of, with_sample, plane_of, filled_plane, pad_plane, crop_plane}
 
 pub length-tabulate : {A : Type 0} (n : ℕ) (f : ℕ → A) → length (tabulate n f) ≡ n
 unfolding tabulate
@@ -216,19 +216,19 @@ length-padded_rows xs w h v n = length-rows v n
     (λ x y. get_or xs (min y (h - 1) * w + min x (w - 1)) 0)
 
 pub padded_rows_more : (xs : List ℕ) (w h v n y : ℕ) → length xs ≡ w * h → 0 < w → 0 < h → w ≤ v →
-    y ≡ min n (h - 1) → padded_rows xs w h v n ++ lengthened (slice_range xs (y * w) (y * w + w))
+    y ≡ min n (h - 1) → padded_rows xs w h v n ++ lengthened_row (slice_range xs (y * w) (y * w + w))
     v ≡ padded_rows xs w h v (n + 1)
 unfolding padded_rows
 padded_rows_more xs w h v n y count wide high wider at =
     let start : y * w + w ≤ w * h = row_fits_turned y w w h (omega arith) (omega arith) in
     let row : List ℕ = slice_range xs (y * w) (y * w + w) in
     let size : length row ≡ w = length-between xs (y * w) (y * w + w) (omega arith) ∙ omega arith in
-    let longer : lengthened row v ≡ tabulate v
+    let longer : lengthened_row row v ≡ tabulate v
     (λ x. get_or xs (min n (h - 1) * w + min x (w - 1)) 0) =
     ap (λ m. row ++ replicate (v - m) (get_or row (m - 1) 0)) size
     ∙ padded_row xs (y * w) w v wide wider (omega arith)
     ∙ ap (λ m. tabulate v (λ x. get_or xs (m * w + min x (w - 1)) 0)) at in
-    rows_push v n (λ x z. get_or xs (min z (h - 1) * w + min x (w - 1)) 0) (lengthened row v) longer
+    rows_push v n (λ x z. get_or xs (min z (h - 1) * w + min x (w - 1)) 0) (lengthened_row row v) longer
 
 pub padded_rows_all : (xs : List ℕ) (w h v u n : ℕ) (ys : List ℕ) → ys ≡ padded_rows xs w h v n →
     n ≡ u → record { width = v; height = u; samples = ys } ≡ pad_plane record
@@ -242,9 +242,9 @@ padded_rows_all xs w h v u n ys is all =
     let made : List ℕ → Plane = λ t. record { width = v; height = u; samples = t } in
     ap made samples
 
-pub filled-plane : (w h v : ℕ) (xs : List ℕ) → 0 < w → xs ≡ replicate (w * h) v → record
-    { width = w; height = h; samples = xs } ≡ filled w h v
-filled-plane w h v xs wide is =
+pub filled_plane_is : (w h v : ℕ) (xs : List ℕ) → 0 < w → xs ≡ replicate (w * h) v → record
+    { width = w; height = h; samples = xs } ≡ filled_plane w h v
+filled_plane_is w h v xs wide is =
     let made : List ℕ → Plane = λ t. record { width = w; height = h; samples = t } in
     ap made (is ∙ replicate-rows w h v wide)
 
@@ -259,8 +259,8 @@ pub get_or-row_of : (p : Plane) (x y : ℕ) → x < p.width → get_or (row_of p
 get_or-row_of p x y across = get_or-between p.samples (y * p.width) (y * p.width + p.width) x 0
     (omega arith)
 
-pub sample_at-filled : (w h x y v : ℕ) → x < w → y < h → sample_at (filled w h v) x y ≡ v
-sample_at-filled w h x y v across down = sample_at-plane_of w h x y (λ _ _. v) across down
+pub sample_at-filled_plane : (w h x y v : ℕ) → x < w → y < h → sample_at (filled_plane w h v) x y ≡ v
+sample_at-filled_plane w h x y v across down = sample_at-plane_of w h x y (λ _ _. v) across down
 
 pub IsPlane-with_sample : (w h x y v : ℕ) (p : Plane) → IsPlane w h p → IsPlane w h
     (with_sample p x y v)

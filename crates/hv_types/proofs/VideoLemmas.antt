@@ -25,8 +25,8 @@ IsPlane-pad_to : (p : Plane) (w h v u : ℕ) → w ≡ v → h ≡ u → 0 < w �
 IsPlane-pad_to p w h v u across down wide high =
     record { wide = across; high = down; whole = (IsPlane-pad p w h wide high).whole }
 
-pub PadGivesPicture_lem : PadGivesPicture
-PadGivesPicture_lem w h p it =
+pub pad_gives_picture : PadGivesPicture
+pad_gives_picture w h p it =
     let w_is : p.luma.width ≡ w = it.luma.wide in
     let h_is : p.luma.height ≡ h = it.luma.high in
     let wide : 0 < p.luma.width = it.luma.whole.wide in
@@ -42,8 +42,8 @@ PadGivesPicture_lem w h p it =
           (ap half w_is) (ap half h_is) (omega arith) (omega arith);
     }
 
-pub CropUndoesPad_lem : CropUndoesPad
-CropUndoesPad_lem w h p it =
+pub crop_undoes_pad : CropUndoesPad
+crop_undoes_pad w h p it =
     let w_is : p.luma.width ≡ w = it.luma.wide in
     let h_is : p.luma.height ≡ h = it.luma.high in
     let w_to : ℕ = padded_side p.luma.width in
@@ -58,8 +58,8 @@ CropUndoesPad_lem w h p it =
 length-samples : (w h : ℕ) (p : Plane) → IsPlane w h p → length p.samples ≡ w * h
 length-samples w h p it = it.whole.count ∙ ap₂ (λ a b. a * b) it.wide it.high
 
-pub CountsRaw_lem : CountsRaw
-CountsRaw_lem w h p it =
+pub raw_counts_bytes : CountsRaw
+raw_counts_bytes w h p it =
     omega (
       arith,
       length-append p.luma.samples (p.cb.samples ++ p.cr.samples),
@@ -95,8 +95,8 @@ take_parts a c bytes =
     ∙ sym (take-add a (c + c) bytes)
     ∙ ap (λ n. take n bytes) whole
 
-pub FrontIsPicture_lem : FrontIsPicture
-FrontIsPicture_lem w h bytes wide high enough =
+pub front_is_picture : FrontIsPicture
+front_is_picture w h bytes wide high enough =
     let a : ℕ = w * h in
     let c : ℕ = w / 2 * (h / 2) in
     record {
@@ -186,7 +186,7 @@ length-flat_map-raw w h (p ∷ ps) all =
       arith,
       on,
       length-append (raw p) (flat_map raw ps),
-      CountsRaw_lem w h p
+      raw_counts_bytes w h p
           (first_is w h p ps all),
       length-flat_map-raw w h ps (later_are w h p ps all),
     )
@@ -203,12 +203,12 @@ each_picture-flat_map w h (p ∷ ps) bs all =
     ∙ each_picture_first w h n (length ps) (raw p ++ more)
     ∙ ap₂ (λ q t. q ∷ each_picture w h n (length ps) t)
     (picture_of-raw w h p more (first_is w h p ps all))
-    (drop_at (raw p) more n (CountsRaw_lem w h p (first_is w h p ps all)))
+    (drop_at (raw p) more n (raw_counts_bytes w h p (first_is w h p ps all)))
     ∙ ap (λ t. p ∷ t) (each_picture-flat_map w h ps bs (later_are w h p ps all))
 
-pub PicturesReadBack_lem : PicturesReadBack
+pub pictures_read_back : PicturesReadBack
 unfolding each_picture
-PicturesReadBack_lem w h ps bs all short =
+pictures_read_back w h ps bs all short =
     let n : ℕ = picture_bytes_of w h in
     let k : ℕ = length ps in
     let bytes : List ℕ = flat_map raw ps ++ bs in
@@ -234,7 +234,7 @@ each_picture_joined w h (suc k) bytes wide high enough =
     let n : ℕ = picture_bytes_of w h in
     let on : suc k * n ≡ n + k * n = omega arith in
     let later : List Picture = each_picture w h n k (drop n bytes) in
-    let front : IsFront w h bytes = FrontIsPicture_lem w h bytes wide high (omega arith) in
+    let front : IsFront w h bytes = front_is_picture w h bytes wide high (omega arith) in
     ap₂ (λ ps t. flat_map raw ps ++ t) (each_picture_first w h n k bytes)
     (ap (λ m. drop m bytes) on ∙ sym (drop-drop (k * n) n bytes))
     ∙ append_assoc (raw (picture_of w h bytes)) (flat_map raw later) (drop (k * n) (drop n bytes))
@@ -242,9 +242,9 @@ each_picture_joined w h (suc k) bytes wide high enough =
     (each_picture_joined w h k (drop n bytes) wide high (omega (arith, length-drop n bytes)))
     ∙ take-append-drop n bytes
 
-pub BytesAreSplit_lem : BytesAreSplit
+pub bytes_are_split : BytesAreSplit
 unfolding each_picture
-BytesAreSplit_lem w h bytes wide high =
+bytes_are_split w h bytes wide high =
     let n : ℕ = picture_bytes_of w h in
     let k : ℕ = picture_count w h bytes in
     let some : 0 < n = omega (arith, product_positive w h (omega arith) (omega arith)) in
@@ -252,7 +252,7 @@ BytesAreSplit_lem w h bytes wide high =
     let left : length bytes % n < n = mod_below (length bytes) n some in
     let at : (i : ℕ) → i < k → IsPicture w h (picture_of w h (drop (i * n) bytes)) = λ i below.
     let within : i * n + n ≤ k * n = row_fits i n k n below (omega arith) in
-    (FrontIsPicture_lem w h (drop (i * n) bytes) wide high
+    (front_is_picture w h (drop (i * n) bytes) wide high
     (omega (arith, length-drop (i * n) bytes))).whole in
     record {
       whole = λ i d below.
@@ -268,8 +268,8 @@ BytesAreSplit_lem w h bytes wide high =
       joined = each_picture_joined w h k bytes wide high (omega arith);
     }
 
-pub KeepBytes_lem : KeepBytes
-KeepBytes_lem = record {
+pub bytes_are_kept : KeepBytes
+bytes_are_kept = record {
   of_front = λ w h bytes all.
       let part : (n m : ℕ) → All (λ b. b < 256) (take n (drop m bytes)) = λ n m.
       All-take (λ b. b < 256) n (drop m bytes) (All-drop (λ b. b < 256) m bytes all) in

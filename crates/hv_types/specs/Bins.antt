@@ -3,7 +3,8 @@ use Rattle.std.specs.Prelude.{Bool, ℕ, List, ◌++◌}
 use Rattle.hv_types.specs.declared.bins.Ctx.{Ctx}
 use Rattle.hv_types.specs.declared.bins.SliceKind.{SliceKind}
 
--- a bin is decoded with a context (9.3.4.3.2), in bypass (9.3.4.3.4), or before terminate (9.3.4.3.5)
+-- a bin is decoded with a context (9.3.4.3.2), in bypass (9.3.4.3.4), or before terminate
+-- (9.3.4.3.5)
 pub data Question : Type 0 where
   Context : Ctx → Question
   Bypass : Question
@@ -29,7 +30,8 @@ terminate_bin value = record { question = Terminate; value = value }
 -- ---- what takes bins
 
 -- what stood for some bins of a slice, of whatever kind and quantiser, stands for these after them
-abbrev pub Puts : {S : Type 0} → (S → SliceKind → ℕ → List Bin → Type 0) → S → S → List Bin → Type 0
+abbrev pub Puts :
+    {S : Type 0} → (S → SliceKind → ℕ → List Bin → Type 0) → S → S → List Bin → Type 0
 Puts stands_for old new bins =
     (kind : SliceKind) (qp : ℕ) (before : List Bin) →
     stands_for old kind qp before → stands_for new kind qp (before ++ bins)

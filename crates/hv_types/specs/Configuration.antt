@@ -18,6 +18,13 @@ is_odd n = nat_eq (n % 2) 1
 abbrev pub is_outside : ℕ → ℕ → ℕ → Bool
 is_outside low high n = nat_lt n low || nat_lt high n
 
+-- the most temporal levels above the lowest, and the most pictures of a video
+abbrev pub most_levels : ℕ
+most_levels = 3
+
+abbrev pub most_pictures : ℕ
+most_pictures = 400000
+
 -- the pictures that a generator is asked for, 0 where there is no generator
 abbrev pub pictures_asked : Option SynthSpec → ℕ
 pictures_asked None = 0
@@ -27,12 +34,12 @@ pictures_asked (Some s) = s.pictures
 abbrev pub field_tests : Settings → List (Bool × Field)
 field_tests s =
     (is_outside 0 51 s.qp, Qp)
-    ∷ (is_outside 0 3 s.levels, Levels)
+    ∷ (is_outside 0 most_levels s.levels, Levels)
     ∷ (is_outside 1 64 s.group, Group)
     ∷ (is_outside 1 16 s.workers, Workers)
     ∷ (is_outside 0 2 s.effort, Effort)
     ∷ (is_outside 1 64 s.segment, Segment)
-    ∷ (is_outside 0 400000 (pictures_asked s.synth), Pictures)
+    ∷ (is_outside 0 most_pictures (pictures_asked s.synth), Pictures)
     ∷ []
 
 -- the first field that is out of its range
@@ -73,8 +80,8 @@ columns s = (padded_width s + 63) / 64
 abbrev pub rows : Settings → ℕ
 rows s = (padded_height s + 63) / 64
 
--- the bytes of one raw picture of these sides, without padding: a byte for each sample of luma, of Cb and of Cr, where
--- each of the last two has half the width and half the height
+-- the bytes of one raw picture of these sides, without padding: a byte for each sample of luma, of
+-- Cb and of Cr, where each of the last two has half the width and half the height
 abbrev pub picture_bytes_of : ℕ → ℕ → ℕ
 picture_bytes_of width height = width * height + 2 * (width / 2 * (height / 2))
 
@@ -91,7 +98,7 @@ pub record IsValid (s : Settings) : Type 0 where
   pub height_most : s.height ≤ 2176
   pub group_samples : s.width * s.height * s.group ≤ 2 ^ 28
   pub qp : s.qp ≤ 51
-  pub levels : s.levels ≤ 3
+  pub levels : s.levels ≤ most_levels
   pub group_least : 1 ≤ s.group
   pub group_most : s.group ≤ 64
   pub workers_least : 1 ≤ s.workers
@@ -99,4 +106,4 @@ pub record IsValid (s : Settings) : Type 0 where
   pub effort : s.effort ≤ 2
   pub segment_least : 1 ≤ s.segment
   pub segment_most : s.segment ≤ 64
-  pub pictures : pictures_asked s.synth ≤ 400000
+  pub pictures : pictures_asked s.synth ≤ most_pictures

@@ -3,8 +3,8 @@ use Rattle.std.specs.Prelude.{◌≡◌, ℕ, ◌+◌, ◌-◌, ◌^◌, ◌<◌
 use Rattle.std.specs.List.{list_any}
 
 -- one more, in a counter of 64 bits, which stays at its last value
-abbrev pub counted : ℕ → ℕ
-counted n = min (n + 1) (2 ^ 64 - 1)
+abbrev pub next_count : ℕ → ℕ
+next_count n = min (n + 1) (2 ^ 64 - 1)
 
 -- what fails, how many calls there were, and how many of them failed
 pub record Script : Type 0 where
@@ -14,8 +14,8 @@ pub record Script : Type 0 where
   pub faults : ℕ
 
 -- before any call
-abbrev pub uncalled : List ℕ → Script
-uncalled failing = record { failing = failing; calls = 0; faults = 0 }
+abbrev pub uncalled_script : List ℕ → Script
+uncalled_script failing = record { failing = failing; calls = 0; faults = 0 }
 
 -- the next call is one of those that fail
 abbrev pub is_failing : Script → Bool
@@ -23,10 +23,10 @@ is_failing s = list_any (λ number. nat_eq number s.calls) s.failing
 
 -- after a call that didn't fail, and after one that did
 abbrev pub after_ok : Script → Script
-after_ok s = record s { calls = counted s.calls }
+after_ok s = record s { calls = next_count s.calls }
 
 abbrev pub after_fault : Script → Script
-after_fault s = record s { calls = counted s.calls; faults = counted s.faults }
+after_fault s = record s { calls = next_count s.calls; faults = next_count s.faults }
 
 -- a source: the bytes still to come, and the most that one call gives
 pub record Giver : Type 0 where
@@ -58,9 +58,23 @@ pub record TakesExactly (before now : Taker) (piece : List ℕ) (n : ℕ) : Type
   pub due : is_failing before.script ≡ false
   pub fits : length before.written < before.room
   pub count : n ≡ min (min (before.room - length before.written) (length piece)) before.at_most
-  pub after : now ≡ record before { written = before.written ++ take n piece; script = after_ok before.script }
+  pub after : now ≡ record before {
+    written = before.written ++ take n piece;
+    script = after_ok before.script;
+  }
 
--- A write failed: its number is one of those that fail, or nothing fits any more. It left the bytes written.
+-- A write failed: its number is one of those that fail, or nothing fits any more. It left the
+-- bytes written.
 pub record TakesNothing (before now : Taker) : Type 0 where
   pub due : is_failing before.script ≡ false → before.room ≤ length before.written
+  pub after : now ≡ record before { script = after_fault before.script }
+
+-- The end was asked for, and came through or failed: then its number is one of those that fail. It
+-- left the bytes written.
+pub record EndsWell (before now : Taker) : Type 0 where
+  pub due : is_failing before.script ≡ false
+  pub after : now ≡ record before { script = after_ok before.script }
+
+pub record EndsBadly (before now : Taker) : Type 0 where
+  pub due : is_failing before.script ≡ true
   pub after : now ≡ record before { script = after_fault before.script }

@@ -8,8 +8,8 @@ tabulate zero f = []
 tabulate (suc n) f = f 0 ∷ tabulate n (λ i. f (suc i))
 
 -- a row, and then its last sample until there are n
-abbrev pub lengthened : List ℕ → ℕ → List ℕ
-lengthened row n = row ++ replicate (n - length row) (slice_index row (length row - 1))
+abbrev pub lengthened_row : List ℕ → ℕ → List ℕ
+lengthened_row row n = row ++ replicate (n - length row) (slice_index row (length row - 1))
 
 -- a plane: its samples by rows, each row from left to right
 pub record Plane : Type 0 where
@@ -50,8 +50,8 @@ abbrev pub plane_of : ℕ → ℕ → (ℕ → ℕ → ℕ) → Plane
 plane_of w h f = plane_by_rows w h (concat (tabulate h (λ y. tabulate w (λ x. f x y))))
 
 -- the plane whose every sample is v
-abbrev pub filled : ℕ → ℕ → ℕ → Plane
-filled w h v = plane_of w h (λ _ _. v)
+abbrev pub filled_plane : ℕ → ℕ → ℕ → Plane
+filled_plane w h v = plane_of w h (λ _ _. v)
 
 -- p with v in column x of row y
 abbrev pub with_sample : Plane → ℕ → ℕ → ℕ → Plane

@@ -1,8 +1,8 @@
 //! A source and a sink in memory, which move bytes in small steps and fail where they are told to.
 
-ghost use Rattle.std.specs.Prelude.{◌≡◌, ◌<◌, ◌≤◌, [], Some, IfOk, OnErr, length};
+ghost use Rattle.std.specs.Prelude.{◌≡◌, ◌<◌, ◌≤◌, [], Some, IfOk, OnOk, OnErr, length};
 ghost use Rattle.hv_types.specs.Outside.{Reads, Writes, Rises};
-ghost use Rattle.hv_types.specs.Memory.{GivesExactly, GivesNothing, TakesExactly, TakesNothing, uncalled};
+ghost use Rattle.hv_types.specs.Memory.{GivesExactly, GivesNothing, TakesExactly, TakesNothing, EndsWell, EndsBadly, uncalled_script};
 
 use crate::script::Script;
 use crate::{Failed, NoMemory, Sink, Source};
@@ -41,7 +41,7 @@ impl MemorySource {
         requires { 1 ≤ at_most }
         ensures bytes { result.left ≡ bytes.items }
         ensures at_most { result.at_most ≡ at_most }
-        ensures script { result.script ≡ uncalled failing.items }
+        ensures script { result.script ≡ uncalled_script failing.items }
     {
         MemorySource {
             bytes,
@@ -67,7 +67,7 @@ impl Source for MemorySource {
         ensures reads { IfOk result (Reads (Some self.old.left) (Some self.new.left) into.new) }
         ensures err { OnErr result (GivesNothing self.old self.new) }
         ensures fault { OnErr result (Rises self.old.script.faults self.new.script.faults) }
-        ensures kept { OnErr result (into.new ≡ into.old) }
+        ensures untouched { OnErr result (into.new ≡ into.old) }
     {
         if self.script.is_failing() {
             self.script.count_fault();
@@ -118,7 +118,7 @@ impl MemorySink {
         ensures empty { IfOk result (λ sink. sink.written ≡ []) }
         ensures room { IfOk result (λ sink. sink.room ≡ room) }
         ensures at_most { IfOk result (λ sink. sink.at_most ≡ at_most) }
-        ensures script { IfOk result (λ sink. sink.script ≡ uncalled failing.items) }
+        ensures script { IfOk result (λ sink. sink.script ≡ uncalled_script failing.items) }
     {
         Ok(MemorySink {
             bytes: Vec::with_capacity(alloc, room as usize)?,
@@ -163,6 +163,20 @@ impl Sink for MemorySink {
         self.bytes.extend_from_slice(&piece[..count]).unwrap();
         Ok(count)
     }
+
+    /// It is one of the calls that are numbered, and fails exactly where it is told to fail.
+    fn end(&mut self) -> Result<(), Failed>
+        ensures ok { OnOk result (EndsWell self.old self.new) }
+        ensures err { OnErr result (EndsBadly self.old self.new) }
+        ensures fault { OnErr result (Rises self.old.script.faults self.new.script.faults) }
+    {
+        if !self.script.is_failing() {
+            self.script.count();
+            return Ok(());
+        }
+        self.script.count_fault();
+        Err(Failed)
+    }
 }
 
 #[cfg(test)]
@@ -193,6 +207,17 @@ mod tests {
         assert_eq!(rt; sink.write(&[3, 4]), Ok(1));
         assert_eq!(rt; sink.write(&[4]), Err(Failed));
         assert_eq!(rt; sink.written(), [1, 2, 3].as_slice());
+        Ok(())
+    }
+
+    #[test]
+    fn the_end_is_a_call_too(rt: HostRuntime) -> Result<(), NoMemory> {
+        let failing = [1, 2].to_vec(rt.alloc())?;
+        let mut sink = MemorySink::new(rt.alloc(), 3, 2, failing)?;
+        assert_eq!(rt; sink.end(), Ok(()));
+        assert_eq!(rt; sink.end(), Err(Failed));
+        assert_eq!(rt; sink.write(&[1]), Err(Failed));
+        assert_eq!(rt; sink.end(), Ok(()));
         Ok(())
     }
 }

@@ -13,9 +13,9 @@ pub trait Source {
     /// How many reads have failed. A counter of 64 bits stays at its last value.
     ghost faults: { Self → ℕ };
 
-    /// Reads at least one byte to the front of `into`, and at most its length. `Ok(0)` is the end of
-    /// the input; a source that tells its bytes answers it there alone. What lies behind the bytes
-    /// read may be any.
+    /// Reads at least one byte to the front of `into`, and at most its length. `Ok(0)` is the end
+    /// of the input; a source that tells its bytes answers it there alone. What lies behind the
+    /// bytes read may be any.
     fn read(&mut self, into: &mut [u8]) -> Result<usize, Failed>
         requires { 0 < length into.old }
         ensures ok { IfOk result (λ n. Reads (left self.old) (left self.new) into.new n) }
@@ -38,6 +38,13 @@ pub trait Sink {
         ensures ok { IfOk result (λ n. Writes (written self.old) (written self.new) piece.now n) }
         ensures no_fault { OnOk result (faults self.new ≡ faults self.old) }
         ensures err { OnErr result (written self.new ≡ written self.old) }
+        ensures fault { OnErr result (Rises (faults self.old) (faults self.new)) };
+
+    /// Asks, behind the last write, whether what was written came through, as far as the sink can
+    /// know. It writes nothing.
+    fn end(&mut self) -> Result<(), Failed>
+        ensures same { written self.new ≡ written self.old }
+        ensures no_fault { OnOk result (faults self.new ≡ faults self.old) }
         ensures fault { OnErr result (Rises (faults self.old) (faults self.new)) };
 }
 

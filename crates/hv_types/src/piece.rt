@@ -18,7 +18,7 @@ pub enum PieceKind {
 pub struct Piece {
     /// The number of the group, from 0.
     pub group: u32,
-    /// The number of the picture in its group, in coding order, from 0.
+    /// The number of the picture in its group, in output order, from 0.
     pub picture: u8,
     pub kind: PieceKind,
     /// The number of the segment in its picture, by rows; 0 for the other kinds.

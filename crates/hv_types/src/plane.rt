@@ -1,7 +1,7 @@
 //! A plane of samples.
 
-ghost use Rattle.std.specs.Prelude.{◌≡◌, ◌+◌, ◌-◌, ◌*◌, ◌/◌, ◌^◌, ◌<◌, ◌≤◌, ◌++◌, length, IfOk, OnOk, vec_len};
-ghost use Rattle.hv_types.specs.Samples.{lengthened};
+ghost use Rattle.std.specs.Prelude.{◌≡◌, min, ◌+◌, ◌-◌, ◌*◌, ◌/◌, ◌^◌, ◌<◌, ◌≤◌, ◌++◌, length, IfOk, OnOk, vec_len};
+ghost use Rattle.hv_types.specs.Samples.{plane_by_rows, row_of, lengthened_row};
 
 use crate::answers::NoMemory;
 use std::alloc::Global;
@@ -53,14 +53,14 @@ impl Model for Plane {
 }
 
 impl Plane {
-    ghost use Rattle.hv_types.specs.Samples.{plane_by_rows, sample_at, row_of, with_sample, filled, pad_plane};
+    ghost use Rattle.hv_types.specs.Samples.{plane_by_rows, sample_at, row_of, with_sample, filled_plane, pad_plane};
 
     /// A plane of `width` columns and `height` rows, at least 1 each. Every sample is `value`.
     /// The only error is want of memory.
     pub fn new(alloc: Global, width: u32, height: u32, value: u8) -> Result<Self, NoMemory>
         requires wide { 0 < width }
         requires high { 0 < height }
-        ensures { IfOk result (λ plane. plane ≡ filled width height value) }
+        ensures { IfOk result (λ plane. plane ≡ filled_plane width height value) }
     {
         let samples = vec![in alloc; value; width as usize * height as usize]?;
         Ok(Plane {
@@ -86,16 +86,10 @@ impl Plane {
         ensures { IfOk result (λ plane. plane ≡
             pad_plane (plane_by_rows from.width from.height samples.now) to.width to.height) }
     {
-        let columns = from.width as usize;
-        let padded_columns = to.width as usize;
         let mut padded = Vec::with_capacity(alloc, to.samples())?;
         for y in 0..to.height {
-            let start = y.min(from.height - 1) as usize * columns;
-            append_row(
-                &mut padded,
-                &samples[start..start + columns],
-                padded_columns,
-            )?;
+            let row = row_or_last(samples, from, y);
+            append_row(&mut padded, row, to.width as usize)?;
         }
         Ok(Plane {
             width: to.width,
@@ -149,12 +143,24 @@ impl Plane {
     }
 }
 
+/// Row `y` of samples by rows, of these sides, or the last row where there is no such row.
+fn row_or_last(samples: &[u8], sides: Sides, y: u32) -> &[u8]
+    requires count { length samples.now ≡ sides.width * sides.height }
+    requires high { 0 < sides.height }
+    ensures { result.now ≡
+        row_of (plane_by_rows sides.width sides.height samples.now) (min y (sides.height - 1)) }
+{
+    let columns = sides.width as usize;
+    let start = y.min(sides.height - 1) as usize * columns;
+    &samples[start..start + columns]
+}
+
 /// Appends a row and then its last sample until `columns` are there.
 fn append_row(samples: &mut Vec<u8>, row: &[u8], columns: usize) -> Result<(), NoMemory>
     requires some { 0 < length row.now }
     requires within { length row.now ≤ columns }
     requires fits { vec_len samples.old + columns < 2 ^ 64 }
-    ensures { OnOk result (samples.new.items ≡ samples.old.items ++ lengthened row.now columns) }
+    ensures { OnOk result (samples.new.items ≡ samples.old.items ++ lengthened_row row.now columns) }
 {
     let end = samples.len() + columns;
     samples.extend_from_slice(row)?;

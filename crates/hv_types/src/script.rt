@@ -2,7 +2,7 @@
 
 ghost use Rattle.std.specs.Prelude.{◌≡◌};
 ghost use Rattle.hv_types.specs.Outside.{Rises};
-ghost use Rattle.hv_types.specs.Memory.{uncalled, is_failing, after_ok, after_fault};
+ghost use Rattle.hv_types.specs.Memory.{uncalled_script, is_failing, after_ok, after_fault};
 
 use std::marker::Model;
 
@@ -26,7 +26,7 @@ impl Model for Script {
 
 impl Script {
     pub(crate) fn new(failing: Vec<u64>) -> Self
-        ensures { result ≡ uncalled failing.items }
+        ensures { result ≡ uncalled_script failing.items }
     {
         Script {
             failing,

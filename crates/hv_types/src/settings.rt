@@ -1,7 +1,7 @@
 //! What an encoding is asked to do.
 
 ghost use Rattle.std.specs.Prelude.{◌≡◌, ◌≤◌, ◌<◌, ◌%◌, ◌*◌, None, Some, IfOk, IfErr};
-ghost use Rattle.hv_types.specs.Configuration.{fault_of, padded_width, padded_height, columns, rows, picture_bytes, field_out_of_range, IsValid};
+ghost use Rattle.hv_types.specs.Configuration.{fault_of, padded_width, padded_height, columns, rows, picture_bytes, picture_bytes_of, field_out_of_range, IsValid};
 
 use std::marker::Model;
 
@@ -72,9 +72,14 @@ pub enum ConfigError {
     OutOfRange { field: Field },
 }
 
-const GROUP_SAMPLES: u64 = 1 << 28;
+/// The most temporal levels above the lowest.
+pub const MOST_LEVELS: u8 = 3;
 
-const MOST_PICTURES: u32 = 400_000;
+/// The most pictures of a video.
+pub const MOST_PICTURES: u32 = 400_000;
+
+/// The most luma samples of a group.
+const MOST_GROUP_SAMPLES: u64 = 1 << 28;
 
 /// Settings that pass every test of `Config::checked`. Contracts see the settings.
 #[derive(Clone, Copy, Debug, PartialEq, Eq, Hash)]
@@ -139,7 +144,8 @@ impl Config {
         self.settings.height.div_ceil(8) * 8
     }
 
-    /// The number of coding tree blocks in a row of a padded picture (`PicWidthInCtbsY`, 7.4.3.2).
+    /// The number of coding tree blocks in a row of a padded picture (`PicWidthInCtbsY`,
+    /// 7.4.3.2).
     pub fn columns(&self) -> u32
         ensures value { result ≡ columns self.now }
         ensures least { 1 ≤ result }
@@ -163,10 +169,19 @@ impl Config {
         ensures least { 96 ≤ result }
         ensures most { result ≤ 13369344 }
     {
-        let width = u64::from(self.settings.width);
-        let height = u64::from(self.settings.height);
-        width * height + 2 * (width / 2 * (height / 2))
+        bytes_of_sides(self.settings.width, self.settings.height)
     }
+}
+
+/// The number of bytes of one raw picture of these sides: 4:2:0, a byte a sample.
+fn bytes_of_sides(width: u32, height: u32) -> u64
+    requires wide { width ≤ 4096 }
+    requires high { height ≤ 2176 }
+    ensures { result ≡ picture_bytes_of width height }
+{
+    let width = u64::from(width);
+    let height = u64::from(height);
+    width * height + 2 * (width / 2 * (height / 2))
 }
 
 /// The first test that the settings fail.
@@ -180,7 +195,7 @@ fn first_fault(settings: &Settings) -> Option<ConfigError>
         return Some(ConfigError::SizeRange);
     }
     let picture = u64::from(settings.width) * u64::from(settings.height);
-    if picture * u64::from(settings.group) > GROUP_SAMPLES {
+    if picture * u64::from(settings.group) > MOST_GROUP_SAMPLES {
         return Some(ConfigError::GroupTooLarge);
     }
     match first_field(settings) {
@@ -199,7 +214,7 @@ fn first_field(settings: &Settings) -> Option<Field>
     };
     if settings.qp > 51 {
         Some(Field::Qp)
-    } else if settings.levels > 3 {
+    } else if settings.levels > MOST_LEVELS {
         Some(Field::Levels)
     } else if settings.group < 1 || settings.group > 64 {
         Some(Field::Group)

@@ -76,6 +76,13 @@ impl Sink for SteadySink {
     {
         Ok(piece.len())
     }
+
+    /// It never fails.
+    fn end(&mut self) -> Result<(), Failed>
+        ensures { IsOk result }
+    {
+        Ok(())
+    }
 }
 
 #[cfg(test)]

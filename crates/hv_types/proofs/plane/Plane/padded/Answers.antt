@@ -1,6 +1,6 @@
-use Rattle.std.proofs.Common.{ℕ, ◌∙◌, sym, ap, ◌++◌, ◌+◌, ◌*◌, rules, length, slice_range, arith}
-use Rattle.hv_types.proofs.SampleLemmas.{padded_rows_none, padded_rows_more, padded_rows_all, length-padded_rows}
-use Rattle.hv_types.specs.Samples.{lengthened}
+use Rattle.std.proofs.Common.{◌∙◌, sym, ap, ◌++◌, ◌*◌, refl, length, min, ◌-◌, arith}
+use Rattle.hv_types.proofs.SampleLemmas.{padded_rows, padded_rows_none, padded_rows_more, padded_rows_all, length-padded_rows}
+use Rattle.hv_types.specs.Samples.{lengthened_row}
 use Rattle.hv_types.proofs.plane.Plane.padded.Goals as goal
 
 pub loop-y-init : goal.loop-y-init
@@ -10,13 +10,13 @@ loop-y-init c =
 
 pub loop-y-preserved : goal.loop-y-preserved
 loop-y-preserved c =
-    let start : ℕ = c.min.result * c.args.from.width in
     c.in_ok-append_row.ensures
-    ∙ ap (λ t. t ++ lengthened (slice_range c.args.samples.now start (start + c.args.from.width))
-    c.args.to.width) c.loop-y.invariant
+    ∙ ap (λ t. t ++ lengthened_row c.row_or_last-row.result.now c.args.to.width) c.loop-y.invariant
+    ∙ ap (λ row. padded_rows c.args.samples.now c.args.from.width c.args.from.height c.args.to.width
+    c.loop-y.y ++ lengthened_row row c.args.to.width) c.row_or_last-row.ensures
     ∙ padded_rows_more c.args.samples.now c.args.from.width c.args.from.height c.args.to.width
-    c.loop-y.y c.min.result c.requires.count c.requires.wide c.requires.high c.requires.wider
-    (search rules)
+    c.loop-y.y (min c.loop-y.y (c.args.from.height - 1)) c.requires.count c.requires.wide
+    c.requires.high c.requires.wider refl
 
 pub invariant_of-result : goal.invariant_of-result
 invariant_of-result c = record {

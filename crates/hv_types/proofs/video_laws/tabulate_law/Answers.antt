@@ -1,5 +1,0 @@
-use Rattle.hv_types.proofs.SampleLemmas.{length-tabulate}
-use Rattle.hv_types.proofs.video_laws.tabulate_law.Goals as goal
-
-pub returns : goal.returns
-returns g c n f = length-tabulate n f

@@ -1,39 +1,38 @@
 -- NAL units (7.3.1), and the byte stream that they stand in (Annex B).
-use Rattle.std.specs.Prelude.{◌≢◌, ℕ, zero, suc, ◌+◌, ◌-◌, ◌*◌, ◌/◌, ◌%◌, ◌<◌, Bool, cond, not, nat_eq, nat_lt, ◌&&◌, ◌||◌, List, [], ◌∷◌, ◌++◌, length, take, drop, replicate, Option, Some, None}
+use Rattle.std.specs.Prelude.{◌≢◌, ℕ, zero, suc, ◌+◌, ◌-◌, ◌*◌, ◌/◌, ◌%◌, ◌<◌, Bool, false, cond, not, nat_eq, nat_lt, ◌&&◌, ◌||◌, List, [], ◌∷◌, ◌++◌, length, take, drop, replicate, Option, Some, None}
 use Rattle.std.specs.List.{list_all, starts_with}
 use Rattle.std.specs.Cmp.Lexicographic.{pointwise}
 
 -- ---- emulation prevention (7.3.1.1, 7.4.2)
 
--- how many zero bytes stand at the end of what came, after one more byte
-abbrev pub run_after : ℕ → ℕ → ℕ
-run_after run byte = cond (nat_eq byte 0) (run + 1) 0
+-- the bytes before a place, the last of them first: the last two are zeros
+abbrev pub end_in_zeros : List ℕ → Bool
+end_in_zeros [] = false
+end_in_zeros (last ∷ []) = false
+end_in_zeros (last ∷ before ∷ others) = nat_eq last 0 && nat_eq before 0
 
-abbrev pub needs_three : ℕ → ℕ → Bool
-needs_three run byte = nat_lt 1 run && nat_lt byte 4
-
-abbrev pub escape_after : ℕ → List ℕ → List ℕ
-escape_after run [] = []
-escape_after run (byte ∷ bytes) =
-    let three = needs_three run byte in
-    cond three (3 ∷ byte ∷ []) (byte ∷ []) ++ escape_after (run_after (cond three 0 run) byte) bytes
+-- what follows in the result, where these bytes of it are there
+abbrev pub escape_behind : List ℕ → List ℕ → List ℕ
+escape_behind result [] = []
+escape_behind result (byte ∷ bytes) =
+    cond (end_in_zeros result && nat_lt byte 4)
+    (3 ∷ byte ∷ escape_behind (byte ∷ 3 ∷ result) bytes)
+    (byte ∷ escape_behind (byte ∷ result) bytes)
 
 -- a byte 3 is put before each byte of at most 3 that follows two zero bytes of the result
 abbrev pub escape : List ℕ → List ℕ
-escape bytes = escape_after 0 bytes
+escape bytes = escape_behind [] bytes
 
-abbrev pub is_emulation_byte : ℕ → ℕ → Bool
-is_emulation_byte run byte = nat_lt 1 run && nat_eq byte 3
-
-abbrev pub strip_after : ℕ → List ℕ → List ℕ
-strip_after run [] = []
-strip_after run (byte ∷ bytes) =
-    let three = is_emulation_byte run byte in
-    cond three [] (byte ∷ []) ++ strip_after (cond three 0 (run_after run byte)) bytes
+-- what is left of bytes that follow these
+abbrev pub strip_behind : List ℕ → List ℕ → List ℕ
+strip_behind before [] = []
+strip_behind before (byte ∷ bytes) =
+    let rest = strip_behind (byte ∷ before) bytes in
+    cond (end_in_zeros before && nat_eq byte 3) rest (byte ∷ rest)
 
 -- each byte 3 that follows two zero bytes is left out
 abbrev pub strip : List ℕ → List ℕ
-strip bytes = strip_after 0 bytes
+strip bytes = strip_behind [] bytes
 
 -- ---- units
 

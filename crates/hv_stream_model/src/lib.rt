@@ -24,4 +24,4 @@ pub use header_laws::{
     video_parameters_are_read,
 };
 pub use stream_laws::{found_units_make_the_stream, streams_have_one_list};
-pub use unit_laws::{payloads_come_back, streams_are_read_back, units_make_a_stream};
+pub use unit_laws::{payloads_come_back, streams_are_read_back, units_make_a_stream, zero_runs_laws};

@@ -1,4 +1,5 @@
--- Fields of headers, and the bits that code them.
+-- Fields of headers and the bits that code them (7.2, 9.2): the length of a code, the alignment
+-- (7.3.2.11), and that fields are read back.
 use Rattle.std.proofs.Common.{◌≡◌, ℕ, zero, suc, ◌+◌, ◌-◌, ◌*◌, ◌/◌, ◌%◌, ◌^◌, ◌<◌, ◌≤◌, List, [], ◌∷◌, ◌++◌, length, take, drop, refl, sym, ap, ◌∙◌, add-one, arith, inl, inr, pow_pos, pow-suc, lt-ltb, le-ltb, ltb-true, ltb-false, append_assoc, length-append, length-drop, take-append-drop}
 use Rattle.std.specs.Prelude.{replicate, nat_lt, Some}
 use Rattle.std.proofs.Math.Nat.{div_self, mod-eq_of_lt, pow-le-pow_right}

@@ -1,4 +1,5 @@
--- Slice headers of other pictures than an IDR: what is read of them, and that they can be coded.
+-- Slice headers of other pictures than an IDR (7.3.6.1, 7.3.7): what is read of them, and that they
+-- can be coded.
 use Rattle.std.proofs.Common.{◌≡◌, ℕ, ◌+◌, ◌-◌, ◌^◌, ◌<◌, ◌≤◌, Bool, true, false, List, [], ◌∷◌, ◌++◌, length, refl, sym, ap, ◌∙◌, subst, arith, append_assoc, le-leb}
 use Rattle.std.specs.Prelude.{nat_eq, nat_le, ◌&&◌, pos, ◌+ℤ◌, ◌-ℤ◌}
 use Rattle.std.proofs.lemmas.Int.{ints}
@@ -147,7 +148,8 @@ codable_side : (most from : ℕ) (side : List Kept) → most ≤ most_count → 
     AllCodable (side_fields from side)
 codable_side most from [] few w = tt
 codable_side most from (kept ∷ rest) few w =
-    (omega (arith, few, w.0), (flag_small kept.is_used, codable_side most kept.distance rest few w.1))
+    let others = codable_side most kept.distance rest few w.1 in
+    (omega (arith, few, w.0), (flag_small kept.is_used, others))
 
 codable_type : (kind : SliceKind) → Codes Ue (type_code kind)
 codable_type I = omega arith

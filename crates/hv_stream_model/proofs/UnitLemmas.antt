@@ -1,4 +1,5 @@
--- NAL units: emulation prevention undone, and byte streams read back.
+-- NAL units (7.3.1, Annex B): emulation prevention by a running number of zero bytes, and undone, and
+-- byte streams read back.
 use Rattle.std.proofs.Common.{◌≡◌, ◌≢◌, ℕ, zero, suc, ◌+◌, ◌-◌, ◌*◌, ◌/◌, ◌%◌, ◌<◌, ◌≤◌, Bool, true, false, cond, ◌&&◌, List, [], ◌∷◌, ◌++◌, length, take, drop, refl, sym, ap, ap₂, ◌∙◌, subst, arith, add-one, lt-ltb, ltb-false, length-append, eq-eqb}
 use Rattle.std.specs.Prelude.{nat_lt, nat_eq, replicate, Some}
 use Rattle.std.proofs.lemmas.Bool.{and_parts, and_left, and_right, ne_eqb, cond_both, cond-false, eqb-true}
@@ -32,8 +33,8 @@ run_after-zeros before byte =
 escape_case : (result : List ℕ) (byte : ℕ) (bytes : List ℕ) →
     ((r : List ℕ) → escape_behind r bytes ≡ escape_after (leading_zero_bytes r) bytes) →
     (t : Bool) →
-    cond t (3 ∷ byte ∷ escape_behind (byte ∷ 3 ∷ result) bytes)
-    (byte ∷ escape_behind (byte ∷ result) bytes) ≡
+    cond t (3 ∷ []) [] ++
+    byte ∷ escape_behind (byte ∷ (cond t (3 ∷ []) [] ++ result)) bytes ≡
     cond t (3 ∷ byte ∷ []) (byte ∷ []) ++
     escape_after (run_after (cond t 0 (leading_zero_bytes result)) byte) bytes
 escape_case result byte bytes rest true =
@@ -47,8 +48,9 @@ escape_behind-runs : (result bytes : List ℕ) →
     escape_behind result bytes ≡ escape_after (leading_zero_bytes result) bytes
 escape_behind-runs result [] = refl
 escape_behind-runs result (byte ∷ bytes) =
-    ap (λ z. cond (z && nat_lt byte 4) (3 ∷ byte ∷ escape_behind (byte ∷ 3 ∷ result) bytes)
-    (byte ∷ escape_behind (byte ∷ result) bytes)) (end_in_zeros-runs result) ∙
+    ap (λ z. cond (z && nat_lt byte 4) (3 ∷ []) [] ++
+    byte ∷ escape_behind (byte ∷ (cond (z && nat_lt byte 4) (3 ∷ []) [] ++ result)) bytes)
+    (end_in_zeros-runs result) ∙
     escape_case result byte bytes (λ r. escape_behind-runs r bytes)
     (needs_three (leading_zero_bytes result) byte)
 
@@ -59,7 +61,7 @@ escape-runs bytes = escape_behind-runs [] bytes
 strip_case : (before : List ℕ) (byte : ℕ) (bytes : List ℕ) →
     ((b : List ℕ) → strip_behind b bytes ≡ strip_after (leading_zero_bytes b) bytes) →
     (t : Bool) → (t ≡ true → byte ≡ 3) →
-    cond t (strip_behind (byte ∷ before) bytes) (byte ∷ strip_behind (byte ∷ before) bytes) ≡
+    cond t [] (byte ∷ []) ++ strip_behind (byte ∷ before) bytes ≡
     cond t [] (byte ∷ []) ++
     strip_after (cond t 0 (run_after (leading_zero_bytes before) byte)) bytes
 strip_case before byte bytes rest true three =
@@ -74,8 +76,8 @@ strip_behind-runs : (before bytes : List ℕ) →
 strip_behind-runs before [] = refl
 strip_behind-runs before (byte ∷ bytes) =
     let run : ℕ = leading_zero_bytes before in
-    ap (λ z. cond (z && nat_eq byte 3) (strip_behind (byte ∷ before) bytes)
-    (byte ∷ strip_behind (byte ∷ before) bytes)) (end_in_zeros-runs before) ∙
+    ap (λ z. cond (z && nat_eq byte 3) [] (byte ∷ []) ++ strip_behind (byte ∷ before) bytes)
+    (end_in_zeros-runs before) ∙
     strip_case before byte bytes (λ b. strip_behind-runs b bytes) (is_emulation_byte run byte)
     (λ e. eqb-true byte 3 (and_parts (nat_lt 1 run) (nat_eq byte 3) e).1)
 

@@ -9,7 +9,7 @@ use Rattle.hv_types.specs.declared.bins.SliceKind.TheVariants.{I, P}
 use Rattle.hv_types.specs.declared.settings.Settings.{Settings}
 use Rattle.hv_types.specs.Configuration.{padded_width, padded_height}
 use Rattle.hv_stream_model.specs.Bits.{bytes_of}
-use Rattle.hv_stream_model.specs.Units.{unit_of_payload}
+use Rattle.hv_stream_model.specs.Units.{VPS_NUT, SPS_NUT, PPS_NUT, unit_of_payload}
 use Rattle.hv_stream_model.specs.Fields.{Descriptor, U, Ue, Field, u, ue, se, signed_of, HeaderScript, bits_of_fields, aligned}
 use Rattle.hv_group_model.specs.Structure.{Kept, ReferenceSet, reference_set, coded_of, qp_at}
 use Rattle.hv_stream_model.specs.Scripts.{Done, Ask, only_if, ◌>>=◌}
@@ -75,8 +75,8 @@ sps_start =
     ue 1 ∷  -- chroma_format_idc
     [])
 
--- the size of a padded picture, and what of it is not shown at the right and at the bottom, in chroma
--- samples
+-- the size of a padded picture, and what of it isn't shown at the right and at the bottom, in
+-- chroma samples
 pub record Size : Type 0 where
   pub pic_width_in_luma_samples : ℕ
   pub pic_height_in_luma_samples : ℕ
@@ -185,8 +185,8 @@ idr_slice qp = idr_start ++ se (qp_delta qp) ∷ []
 
 -- ---- slice_segment_header of another picture than an IDR
 
--- The greatest slice_pic_order_cnt_lsb of this profile. It has 8 bits, so it is the picture order count
--- itself (8.3.1).
+-- The greatest slice_pic_order_cnt_lsb of this profile. It has 8 bits, so that it is the picture
+-- order count itself (8.3.1).
 abbrev pub most_count : ℕ
 most_count = 127
 
@@ -205,8 +205,8 @@ type_code I = 2
 abbrev pub bit_of : Bool → ℕ
 bit_of flag = cond flag 1 0
 
--- st_ref_pic_set (7.3.7), one side of it, behind a picture at this distance: delta_poc_s0_minus1 and
--- used_by_curr_pic_s0_flag, or delta_poc_s1_minus1 and used_by_curr_pic_s1_flag
+-- st_ref_pic_set (7.3.7), one side of it, behind a picture at this distance: delta_poc_s0_minus1
+-- and used_by_curr_pic_s0_flag, or delta_poc_s1_minus1 and used_by_curr_pic_s1_flag
 abbrev pub side_fields : ℕ → List Kept → List Field
 side_fields from [] = []
 side_fields from (kept ∷ rest) =
@@ -277,9 +277,9 @@ parameter_set nal_unit_type fields =
 -- VPS, SPS and PPS
 abbrev pub parameter_sets : Settings → List ℕ
 parameter_sets cfg =
-    parameter_set 32 (vps cfg.levels) ++
-    parameter_set 33 (sps cfg.levels (size_of cfg)) ++
-    parameter_set 34 pps
+    parameter_set VPS_NUT (vps cfg.levels) ++
+    parameter_set SPS_NUT (sps cfg.levels (size_of cfg)) ++
+    parameter_set PPS_NUT pps
 
 -- ---- the slices of a group
 

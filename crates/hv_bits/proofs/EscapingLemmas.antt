@@ -5,7 +5,7 @@ use Rattle.std.proofs.Common.{◌≡◌, ◌≢◌, ℕ, ◌+◌, ◌-◌, ◌<�
 use Rattle.std.specs.Prelude.{nat_lt, nat_eq}
 use Rattle.std.proofs.lemmas.Bool.{and_left, and_right, cond-true, cond-false, cond_both, ne_eqb}
 use Rattle.std.proofs.lemmas.List.{take_more, drop_more, get_or-drop}
-use Rattle.hv_stream_model.specs.Units.{run_after, needs_three, escape_after, is_emulation_byte, strip_after}
+use Rattle.hv_stream_model.specs.ZeroRuns.{run_after, needs_three, escape_after, is_emulation_byte, strip_after}
 
 pub run_zero : (run byte : ℕ) → byte ≡ 0 → run_after run byte ≡ run + 1
 run_zero run byte e = cond-true (nat_eq byte 0) (run + 1) 0 (eq-eqb byte 0 e)

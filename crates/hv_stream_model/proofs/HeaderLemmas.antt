@@ -1,5 +1,5 @@
--- What is read of a parameter set (7.3.2) and of an IDR picture's slice header (7.3.6.1) is what its
--- table was made with, and the table's values can be coded.
+-- What is read of a parameter set (7.3.2) and of an IDR picture's slice header (7.3.6.1) is what
+-- its table was made with, and the table's values can be coded.
 use Rattle.std.proofs.Common.{◌≡◌, ℕ, ◌+◌, ◌-◌, ◌*◌, ◌/◌, ◌%◌, ◌^◌, ◌<◌, ◌≤◌, Bool, true, false, cond, List, [], ◌∷◌, ◌++◌, refl, sym, ap, ◌∙◌, subst, arith, append_assoc, eq-eqb, ne_eqb, le-leb, lt-ltb}
 use Rattle.std.proofs.lemmas.Bool.Decides.{nat_tests}
 use Rattle.std.specs.Prelude.{not, nat_eq, nat_le, nat_lt, ◌&&◌, ℤ, pos, negsuc, neg_ℤ, ◌+ℤ◌, ◌-ℤ◌}

@@ -1,5 +1,5 @@
--- The slice headers of all groups are of this profile (7.3.6.1, 7.3.7): the sizes of their reference
--- sets by computing all of them, and the order and range of their distances.
+-- The slice headers of all groups are of this profile (7.3.6.1, 7.3.7): the sizes of their
+-- reference sets by computing all of them, and the order and range of their distances.
 use Rattle.std.proofs.Common.{◌≡◌, ℕ, zero, suc, ◌+◌, ◌-◌, ◌<◌, ◌≤◌, Bool, true, false, cond, List, [], ◌∷◌, ◌++◌, length, map, refl, sym, ap, ap₂, ◌∙◌, arith, inl, inr}
 use Rattle.std.specs.Prelude.{nat_lt, nat_eq, ◌&&◌}
 use Rattle.std.specs.List.{list_all}

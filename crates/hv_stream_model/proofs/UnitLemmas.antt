@@ -1,5 +1,5 @@
--- NAL units (7.3.1, Annex B): emulation prevention by a running number of zero bytes, and undone, and
--- byte streams read back.
+-- NAL units (7.3.1, Annex B): emulation prevention by a running number of zero bytes, and undone,
+-- and byte streams read back.
 use Rattle.std.proofs.Common.{◌≡◌, ◌≢◌, ℕ, zero, suc, ◌+◌, ◌-◌, ◌*◌, ◌/◌, ◌%◌, ◌<◌, ◌≤◌, Bool, true, false, cond, ◌&&◌, List, [], ◌∷◌, ◌++◌, length, take, drop, refl, sym, ap, ap₂, ◌∙◌, subst, arith, add-one, lt-ltb, ltb-false, length-append, eq-eqb}
 use Rattle.std.specs.Prelude.{nat_lt, nat_eq, replicate, Some}
 use Rattle.std.proofs.lemmas.Bool.{and_parts, and_left, and_right, ne_eqb, cond_both, cond-false, eqb-true}

@@ -124,7 +124,7 @@ fn p_start(picture: u8) -> [Field; 5]
     ]
 }
 
-/// slice_segment_header of a P picture, behind its reference set, of which it uses so many pictures.
+/// slice_segment_header of a P picture, behind its reference set, of which it uses so many.
 #[rattlefmt::skip]
 fn p_end(used: u32, qp: u8) -> [Field; 6]
     requires some { 1 ≤ used }

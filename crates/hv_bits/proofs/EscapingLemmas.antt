@@ -1,11 +1,10 @@
--- Emulation prevention, a piece at a time: the bytes out are followed by those from `from` up to
--- the place i, and by what is
--- made of the others.
+-- Emulation prevention (7.3.1.1), a stretch at a time, for `put_escaped` and `put_stripped`: the bytes
+-- out are followed by those from `from` up to the place i, and by what is made of the others.
 use Rattle.std.proofs.Common.{◌≡◌, ◌≢◌, ℕ, ◌+◌, ◌-◌, ◌<◌, ◌≤◌, Bool, false, ◌&&◌, List, [], ◌∷◌, ◌++◌, length, get_or, take, drop, refl, sym, ap, subst, ◌∙◌, arith, lt-ltb, le-ltb, eq-eqb, append_assoc, append-nil, length-drop}
 use Rattle.std.specs.Prelude.{nat_lt, nat_eq}
 use Rattle.std.proofs.lemmas.Bool.{and_left, and_right, cond-true, cond-false, cond_both, ne_eqb}
 use Rattle.std.proofs.lemmas.List.{take_more, drop_more, get_or-drop}
-use Rattle.hv_stream_model.specs.Units.{run_after, needs_three, escape_after, is_emulation_byte, strip_after}
+use Rattle.hv_stream_model.specs.ZeroRuns.{run_after, needs_three, escape_after, is_emulation_byte, strip_after}
 
 pub run_zero : (run byte : ℕ) → byte ≡ 0 → run_after run byte ≡ run + 1
 run_zero run byte e = cond-true (nat_eq byte 0) (run + 1) 0 (eq-eqb byte 0 e)
@@ -26,11 +25,11 @@ large_byte run byte h = and_right (nat_lt 1 run) (nat_lt byte 4) (le-ltb byte 4 
 pub other_byte : (run byte : ℕ) → byte ≢ 3 → is_emulation_byte run byte ≡ false
 other_byte run byte h = and_right (nat_lt 1 run) (nat_eq byte 3) (ne_eqb byte 3 h)
 
--- the piece up to the next place
-piece_more : (bytes : List ℕ) (from i : ℕ) → from ≤ i → i < length bytes →
+-- the bytes up to the next place
+stretch_more : (bytes : List ℕ) (from i : ℕ) → from ≤ i → i < length bytes →
     take (i + 1 - from) (drop from bytes) ≡
     take (i - from) (drop from bytes) ++ get_or bytes i 0 ∷ []
-piece_more bytes from i h l =
+stretch_more bytes from i h l =
     let n : ℕ = i - from in
     let count : i + 1 - from ≡ n + 1 = omega arith in
     let place : from + n ≡ i = omega arith in
@@ -39,9 +38,9 @@ piece_more bytes from i h l =
     ap (λ x. take n (drop from bytes) ++ x ∷ []) (get_or-drop from bytes n 0 ∙
     ap (λ k. get_or bytes k 0) place)
 
-one_more : (out piece rest : List ℕ) (x : ℕ) →
-    out ++ (piece ++ x ∷ []) ++ rest ≡ out ++ piece ++ x ∷ rest
-one_more out piece rest x = simp append_assoc
+one_more : (out stretch rest : List ℕ) (x : ℕ) →
+    out ++ (stretch ++ x ∷ []) ++ rest ≡ out ++ stretch ++ x ∷ rest
+one_more out stretch rest x = simp append_assoc
 
 -- ---- writing
 
@@ -64,7 +63,7 @@ escape_kept bytes out all from i run h l kept e =
     let here : escape_after run (drop i bytes) ≡ x ∷ rest =
     ap (escape_after run) (drop_more bytes i 0 l) ∙
     escape_kept_case run x (drop (i + 1) bytes) kept in
-    ap (λ w. out ++ w ++ rest) (piece_more bytes from i h l) ∙
+    ap (λ w. out ++ w ++ rest) (stretch_more bytes from i h l) ∙
     one_more out (take (i - from) (drop from bytes)) rest x ∙
     ap (λ w. out ++ take (i - from) (drop from bytes) ++ w) (sym here) ∙ e
 
@@ -82,10 +81,10 @@ escape_put bytes out all from i run l a b e =
     escape_put_case run x (drop (i + 1) bytes) a b in
     let none : take (i - i) (drop i bytes) ≡ [] = let count : i - i ≡ 0 = omega arith in
     ap (λ n. take n (drop i bytes)) count in
-    let piece : take (i + 1 - i) (drop i bytes) ≡ x ∷ [] =
-    piece_more bytes i i (omega arith) l ∙ ap (λ w. w ++ x ∷ []) none in
+    let stretch : take (i + 1 - i) (drop i bytes) ≡ x ∷ [] =
+    stretch_more bytes i i (omega arith) l ∙ ap (λ w. w ++ x ∷ []) none in
     let joined : before ++ 3 ∷ [] ++ x ∷ [] ++ rest ≡ before ++ 3 ∷ x ∷ rest = simp append_assoc in
-    ap (λ w. before ++ 3 ∷ [] ++ w ++ rest) piece ∙ joined ∙ ap (λ w. before ++ w) (sym here) ∙ e
+    ap (λ w. before ++ 3 ∷ [] ++ w ++ rest) stretch ∙ joined ∙ ap (λ w. before ++ w) (sym here) ∙ e
 
 -- ---- reading
 
@@ -107,7 +106,7 @@ strip_kept bytes out all from i run after h l kept r e =
     let here : strip_after run (drop i bytes) ≡ x ∷ rest =
     ap (strip_after run) (drop_more bytes i 0 l) ∙ strip_kept_case run x (drop (i + 1) bytes) kept ∙
     ap (λ n. x ∷ strip_after n (drop (i + 1) bytes)) (sym r) in
-    ap (λ w. out ++ w ++ rest) (piece_more bytes from i h l) ∙
+    ap (λ w. out ++ w ++ rest) (stretch_more bytes from i h l) ∙
     one_more out (take (i - from) (drop from bytes)) rest x ∙
     ap (λ w. out ++ take (i - from) (drop from bytes) ++ w) (sym here) ∙ e
 

@@ -6,8 +6,8 @@ ghost use Rattle.hv_stream_model.specs.Units.{unit_bytes, last_of, escape, strip
 use hv_types::NoMemory;
 use std::alloc::{AllocError, Global};
 
-/// `emulation_prevention_three_byte`, which stands behind two zero bytes and before a byte of at most
-/// the second number (7.3.1.1, 7.4.2).
+/// `emulation_prevention_three_byte`, which stands behind two zero bytes and before a byte of at
+/// most the second number (7.3.1.1, 7.4.2).
 const THREE_BYTE: u8 = 3;
 
 const LARGEST_ESCAPED: u8 = 3;

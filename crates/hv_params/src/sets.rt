@@ -4,9 +4,8 @@ ghost use Rattle.std.specs.Prelude.{◌≡◌, ◌≤◌, ◌<◌, false, IfOk};
 ghost use Rattle.hv_bits.specs.Writing.{Appends};
 ghost use Rattle.hv_stream_model.specs.Bits.{bytes_of};
 ghost use Rattle.hv_stream_model.specs.Fields.{bits_of_fields, aligned};
-ghost use Rattle.hv_stream_model.specs.Headers.{Size, size_of, window, size_fields, vps, sps, pps};
-ghost use Rattle.hv_stream_model.specs.Units.{unit_of_payload};
-ghost use Rattle.hv_stream_model.specs.Headers.{parameter_set};
+ghost use Rattle.hv_stream_model.specs.Headers.{Size, size_of, window, size_fields, vps, sps, pps, parameter_set};
+ghost use Rattle.hv_stream_model.specs.Units.{VPS_NUT as vps_nut, SPS_NUT as sps_nut, PPS_NUT as pps_nut, unit_of_payload};
 
 use crate::tables::{
     PPS, PROFILE_TIER_LEVEL, SPS_DEPTHS, SPS_END, SPS_FORMAT, SPS_START, VPS_END, VPS_START,
@@ -29,7 +28,7 @@ const PPS_NUT: u8 = 34;
 /// says by the number of temporal levels how many pictures a decoder holds. `NoMemory` where a
 /// growth failed.
 pub fn write_vps(alloc: Global, config: &Config) -> Result<Vec<u8>, NoMemory>
-    ensures { IfOk result (λ unit. unit.items ≡ parameter_set 32 (vps config.now.levels)) }
+    ensures { IfOk result (λ unit. unit.items ≡ parameter_set vps_nut (vps config.now.levels)) }
 {
     let mut writer = BitWriter::new(alloc);
     put_vps(&mut writer, config.settings().levels);
@@ -41,7 +40,7 @@ pub fn write_vps(alloc: Global, config: &Config) -> Result<Vec<u8>, NoMemory>
 /// a decoder holds. `NoMemory` where a growth failed.
 pub fn write_sps(alloc: Global, config: &Config) -> Result<Vec<u8>, NoMemory>
     ensures { IfOk result (λ unit.
-        unit.items ≡ parameter_set 33 (sps config.now.levels (size_of config.now))) }
+        unit.items ≡ parameter_set sps_nut (sps config.now.levels (size_of config.now))) }
 {
     let mut writer = BitWriter::new(alloc);
     put_sps(&mut writer, config);
@@ -51,7 +50,7 @@ pub fn write_sps(alloc: Global, config: &Config) -> Result<Vec<u8>, NoMemory>
 /// The picture parameter set, as a unit with its start code (7.3.2.3, Annex B): it is the same for
 /// all settings. `NoMemory` where a growth failed.
 pub fn write_pps(alloc: Global, _config: &Config) -> Result<Vec<u8>, NoMemory>
-    ensures { IfOk result (λ unit. unit.items ≡ parameter_set 34 pps) }
+    ensures { IfOk result (λ unit. unit.items ≡ parameter_set pps_nut pps) }
 {
     let mut writer = BitWriter::new(alloc);
     put_fields(&mut writer, &PPS);

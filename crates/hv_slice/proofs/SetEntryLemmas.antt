@@ -6,7 +6,7 @@ use Rattle.std.proofs.lemmas.List.{take_at, drop_at, take-take, drop-take, take_
 use Rattle.std.proofs.lemmas.Option.{get_or_from_slice_get}
 use Rattle.hv_types.specs.declared.bins.SliceKind.TheVariants.{P}
 use Rattle.hv_group_model.specs.Structure.{Kept, ReferenceSet, reference_set, set_size, coded_of, qp_at}
-use Rattle.hv_stream_model.specs.Headers.{SliceHeader, slice, slice_of}
+use Rattle.hv_stream_model.specs.Headers.{SliceHeader, slice, slice_header_of}
 use Rattle.hv_stream_model.specs.HeaderLaws.{IsAllowedSlice, SlicesOfGroupsAreAllowed, header_of}
 use Rattle.hv_decision.specs.declared.row.SetEntry.{SetEntry}
 use Rattle.hv_decision.specs.Sets.{entry_before, entry_after, set_entries}
@@ -109,13 +109,15 @@ loosen levels header low h = record {
   kept = omega (arith, low, h.kept);
   before = h.before;
   after = h.after;
+  before_most = h.before_most;
+  after_most = h.after_most;
   referred = h.referred;
   qp = h.qp;
 }
 
 pub other_header : SlicesOfGroupsAreAllowed → (count levels base picture : ℕ) → picture ≢ 0 →
     count ≤ 64 → levels ≤ 3 → picture < count →
-    (slice_of count levels base picture ≡ slice (header_of count levels base picture)) ×
+    (slice_header_of count levels base picture ≡ slice (header_of count levels base picture)) ×
     IsAllowedSlice 3 (header_of count levels base picture)
 other_header law count levels base zero some few low below = absurd (some refl)
 other_header law count levels base (suc k) some few low below =

@@ -50,7 +50,7 @@ one_put join side i last distance gap flag d old middle new h p ed eg ef a =
       put = join old middle new p.done two p.put
           (subst (λ f. Appends middle new (bits_of_fields f)) same a);
       rest = append_assoc p.done two others ∙ ap (λ f. p.done ++ f) (sym here) ∙ p.rest;
-      rise = (rise_here side i last d h p.rise).2;
+      rise = (rise_here side i last d h p.rise).1;
     })
 
 pub flag_is : (b : Bool) (n : ℕ) → n ≡ bool_byte b → n ≡ bit_of b

@@ -6,7 +6,7 @@ ghost use Rattle.hv_types.specs.declared.bins.SliceKind.TheVariants.{P};
 ghost use Rattle.hv_bits.specs.Writing.{Appends};
 ghost use Rattle.hv_bits.specs.FieldTables.{field_of, is_codable};
 ghost use Rattle.hv_stream_model.specs.Fields.{bits_of_fields, u, ue, se, aligned};
-ghost use Rattle.hv_stream_model.specs.Headers.{slice, slice_of, idr_slice as idr_slice_of, slice_start, type_code, sao_flags, active_fields, qp_delta};
+ghost use Rattle.hv_stream_model.specs.Headers.{slice, slice_header_of, idr_slice as idr_slice_of, slice_start, type_code, sao_flags, active_fields, qp_delta};
 ghost use Rattle.hv_stream_model.specs.HeaderLaws.{IsAllowedSlice};
 ghost use Rattle.hv_slice.specs.Entries.{header_with};
 
@@ -31,7 +31,7 @@ pub fn write_slice_header(
     requires offsets { _entry_offsets.now ≡ [] }
     ensures unfailed { writer.new.failed ≡ false → writer.old.failed ≡ false }
     ensures bits { writer.new.failed ≡ false → writer.new.bits ≡
-        aligned (writer.old.bits ++ bits_of_fields (slice_of (length group.now.input.pictures)
+        aligned (writer.old.bits ++ bits_of_fields (slice_header_of (length group.now.input.pictures)
         group.now.input.config.levels group.now.input.config.qp picture)) }
     ensures whole { writer.new.failed ≡ false → length writer.new.bits % 8 ≡ 0 }
 {
@@ -58,7 +58,7 @@ fn put_slice(writer: &mut BitWriter, structure: &Structure, picture: u8, base: u
     requires count { structure.now.count ≤ 64 }
     requires levels { structure.now.levels ≤ 3 }
     ensures { Appends writer.old writer.new
-        (bits_of_fields (slice_of structure.now.count structure.now.levels base picture)) }
+        (bits_of_fields (slice_header_of structure.now.count structure.now.levels base picture)) }
 {
     slices_of_groups_are_allowed();
     let qp = structure.qp(picture, base);
@@ -124,7 +124,7 @@ fn p_start(picture: u8) -> [Field; 5]
     ]
 }
 
-/// slice_segment_header of a P picture, behind its reference set, of which it uses so many pictures.
+/// slice_segment_header of a P picture, behind its reference set, of which it uses so many.
 #[rattlefmt::skip]
 fn p_end(used: u32, qp: u8) -> [Field; 6]
     requires some { 1 ≤ used }

@@ -1,4 +1,5 @@
--- Bits, and the bytes that they make.
+-- Bits and the bytes that they make (7.2): digits of a number and back, bits of bytes and back, and
+-- numbers of bits from a place on.
 use Rattle.std.proofs.Common.{◌≡◌, ℕ, zero, suc, ◌+◌, ◌-◌, ◌*◌, ◌/◌, ◌%◌, ◌^◌, ◌<◌, ◌≤◌, List, [], ◌∷◌, ◌++◌, length, get_or, take, drop, refl, sym, ap, ap₂, ◌∙◌, subst, arith, pow_pos, pow-add, pow-suc, mul-le-mul_right, suc-add, one-add, append_assoc, length-append, length-drop, take-append-drop}
 use Rattle.std.specs.Prelude.{replicate}
 use Rattle.std.specs.Int.{byte_at, bytes_high_first}

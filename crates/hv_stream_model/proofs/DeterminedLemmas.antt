@@ -1,5 +1,5 @@
--- The fields that a script reads are determined by their bits: a script that also gives the fields reads them from the
--- bits.
+-- The fields that a script reads are determined by their bits (7.2, 9.2): a script that also gives
+-- the fields reads them from the bits.
 use Rattle.std.proofs.Common.{List, [], ◌∷◌, sym, ap, ◌∙◌}
 use Rattle.std.specs.Prelude.{Option, Some, None}
 use Rattle.hv_stream_model.specs.Scripts.{Done, Ask, Fail, ◌>>=◌, Reads, nothing, one}

@@ -1,4 +1,4 @@
--- Binary digits of whole numbers.
+-- Binary digits of whole numbers, u(n) of 7.2: how many there are, and how they are split.
 use Rattle.std.proofs.Common.{◌≡◌, ℕ, zero, suc, ◌+◌, ◌*◌, ◌/◌, ◌%◌, ◌^◌, ◌-◌, ◌<◌, ◌≤◌, ◌++◌, length, refl, sym, subst, arith, pow_pos, pow-add, pow-suc, shr-shr, suc-add, one-add, add_comm}
 use Rattle.std.proofs.Math.Nat.{zero-add, mul-add-div_right}
 use Rattle.std.proofs.lemmas.Nat.{mod-pow-add}

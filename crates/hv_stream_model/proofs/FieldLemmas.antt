@@ -1,12 +1,13 @@
--- Fields of headers, and the bits that code them.
-use Rattle.std.proofs.Common.{◌≡◌, ℕ, zero, suc, ◌+◌, ◌-◌, ◌*◌, ◌/◌, ◌%◌, ◌^◌, ◌<◌, ◌≤◌, List, [], ◌∷◌, ◌++◌, length, take, drop, refl, sym, ap, ◌∙◌, add-one, arith, pow_pos, pow-suc, lt-ltb, le-ltb, ltb-true, ltb-false, append_assoc, length-append, length-drop, take-append-drop}
+-- Fields of headers and the bits that code them (7.2, 9.2): the length of a code, the alignment
+-- (7.3.2.11), and that fields are read back.
+use Rattle.std.proofs.Common.{◌≡◌, ℕ, zero, suc, ◌+◌, ◌-◌, ◌*◌, ◌/◌, ◌%◌, ◌^◌, ◌<◌, ◌≤◌, List, [], ◌∷◌, ◌++◌, length, take, drop, refl, sym, ap, ◌∙◌, add-one, arith, inl, inr, pow_pos, pow-suc, lt-ltb, le-ltb, ltb-true, ltb-false, append_assoc, length-append, length-drop, take-append-drop}
 use Rattle.std.specs.Prelude.{replicate, nat_lt, Some}
-use Rattle.std.proofs.Math.Nat.{div_self, mod-eq_of_lt}
-use Rattle.std.proofs.lemmas.Bool.{cond_both, le-leb}
+use Rattle.std.proofs.Math.Nat.{div_self, mod-eq_of_lt, pow-le-pow_right}
+use Rattle.std.proofs.lemmas.Bool.{cases_lt, cond_both, le-leb}
 use Rattle.std.proofs.lemmas.Nat.{div_below, le-div}
 use Rattle.std.proofs.lemmas.List.{take_at, drop_at, length-replicate, length-take-le}
 use Rattle.hv_stream_model.specs.Bits.{digits, number_of, first_bytes, bytes_of}
-use Rattle.hv_stream_model.specs.Fields.{Descriptor, U, Ue, Field, halvings, log2_of, exp_golomb, code_of, field_bits, bits_of_fields, Codes, AllCodable, leading_zeros, read_field, padding_of, aligned}
+use Rattle.hv_stream_model.specs.Fields.{Descriptor, U, Ue, Field, halvings, log2_of, exp_golomb, most_zeros, code_of, field_bits, bits_of_fields, Codes, AllCodable, leading_zeros, read_field, padding_of, aligned}
 use Rattle.hv_stream_model.specs.Units.{last_of}
 use Rattle.hv_stream_model.specs.FieldLaws.{FieldsAreReadBack, AlignedBitsAreWhole, AlignedBytesEnd}
 use Rattle.hv_stream_model.proofs.DigitLemmas.{length-digits}
@@ -153,9 +154,9 @@ top_digit k n a b =
     let one : n / 2 ^ k % 2 ≡ 1 = omega arith in
     rw (add-one k, one) refl
 
-code_read : (k n : ℕ) (rest : List ℕ) → 2 ^ k ≤ n → n < 2 * 2 ^ k →
+code_read : (k n : ℕ) (rest : List ℕ) → k ≤ most_zeros → 2 ^ k ≤ n → n < 2 * 2 ^ k →
     read_field (replicate k 0 ++ digits (k + 1) n ++ rest) Ue ≡ Some (n - 1, rest)
-code_read k n rest a b =
+code_read k n rest few a b =
     let zeros : List ℕ = replicate k 0 in
     let number : List ℕ = digits (k + 1) n in
     let bits : List ℕ = replicate k 0 ++ digits (k + 1) n ++ rest in
@@ -178,14 +179,30 @@ code_read k n rest a b =
     let value : number_of (take (k + 1) (drop k bits)) ≡ n =
     ap (λ w. number_of (take (k + 1) w)) behind ∙ number_read (k + 1) n rest small in
     let left : drop (2 * k + 1) bits ≡ rest = drop_at (zeros ++ number) rest (2 * k + 1) code in
-    rw (lead, le-leb (2 * k + 1) (length bits) enough, value, left) refl
+    rw (
+      lead,
+      le-leb k most_zeros few,
+      le-leb (2 * k + 1) (length bits) enough,
+      value,
+      left,
+    ) refl
 
-exp_golomb_read : (v : ℕ) (rest : List ℕ) → v < 2 ^ 64 - 1 →
+-- the exponent of a power that is below another one
+exponent_below : (k m n : ℕ) → 2 ^ k ≤ n → n < 2 ^ m → k < m
+exponent_below k m n a b =
+    elim (cases_lt k m) [
+      | inl h ↦ h
+      | inr h ↦ absurd (omega (arith, pow-le-pow_right {n = 2} (omega arith) h))
+    ]
+
+exp_golomb_read : (v : ℕ) (rest : List ℕ) → v < 2 ^ (most_zeros + 1) - 1 →
     read_field (exp_golomb v ++ rest) Ue ≡ Some (v, rest)
 exp_golomb_read v rest h =
     let b = log2_of-bounds (v + 1) (omega arith) (omega arith) in
+    let few = exponent_below (log2_of (v + 1)) 33 (v + 1) b.0 (omega arith) in
     let value : v + 1 - 1 ≡ v = omega arith in
-    code_read (log2_of (v + 1)) (v + 1) rest b.0 b.1 ∙ ap (λ n. Some (n, rest)) value
+    code_read (log2_of (v + 1)) (v + 1) rest (omega (arith, few)) b.0 b.1 ∙
+    ap (λ n. Some (n, rest)) value
 
 pub field_read : (q : Descriptor) (v : ℕ) (rest : List ℕ) → Codes q v →
     read_field (code_of q v ++ rest) q ≡ Some (v, rest)

@@ -1,7 +1,6 @@
--- The bits of bytes that bits make: zeros to the byte follow them (7.3.2.11); the bits of joined fields.
-use Rattle.std.proofs.Common.{◌≡◌, ℕ, zero, suc, ◌+◌, ◌-◌, ◌/◌, ◌%◌, ◌<◌, ◌≤◌, true, cond, List, [], ◌∷◌, ◌++◌, length, take, drop, refl, sym, ap, ap₂, ◌∙◌, arith, append_assoc, length-append, eq-eqb, lt-ltb}
-use Rattle.std.specs.Prelude.{nat_eq, nat_lt, Some, None}
-use Rattle.std.proofs.lemmas.List.{take_at, drop_at, take-replicate, drop-replicate}
+-- The bits of bytes that bits make (7.2): zeros to the byte follow them; the bits of joined fields.
+use Rattle.std.proofs.Common.{◌≡◌, ℕ, zero, suc, ◌+◌, ◌-◌, ◌/◌, ◌%◌, ◌≤◌, List, [], ◌∷◌, ◌++◌, length, take, drop, refl, sym, ap, ap₂, ◌∙◌, arith, append_assoc, length-append}
+use Rattle.std.proofs.lemmas.List.{take-replicate, drop-replicate}
 use Rattle.hv_stream_model.specs.Bits.{digits, number_of, bits_of, first_bytes, bytes_of}
 use Rattle.hv_stream_model.specs.BitLaws.{AreBits, missing, BitsComeBackFilled}
 use Rattle.hv_stream_model.specs.Fields.{Descriptor, U, Ue, Field, code_of, log2_of, field_bits, bits_of_fields}

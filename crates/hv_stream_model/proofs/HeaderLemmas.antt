@@ -1,4 +1,5 @@
--- What is read of a header is what its table was made with.
+-- What is read of a parameter set (7.3.2) and of an IDR picture's slice header (7.3.6.1) is what
+-- its table was made with, and the table's values can be coded.
 use Rattle.std.proofs.Common.{◌≡◌, ℕ, ◌+◌, ◌-◌, ◌*◌, ◌/◌, ◌%◌, ◌^◌, ◌<◌, ◌≤◌, Bool, true, false, cond, List, [], ◌∷◌, ◌++◌, refl, sym, ap, ◌∙◌, subst, arith, append_assoc, eq-eqb, ne_eqb, le-leb, lt-ltb}
 use Rattle.std.proofs.lemmas.Bool.Decides.{nat_tests}
 use Rattle.std.specs.Prelude.{not, nat_eq, nat_le, nat_lt, ◌&&◌, ℤ, pos, negsuc, neg_ℤ, ◌+ℤ◌, ◌-ℤ◌}
@@ -8,7 +9,7 @@ use Rattle.std.specs.List.{list_all}
 use Rattle.std.proofs.lemmas.Bool.{ltb-true, and_parts}
 use Rattle.std.specs.Int.{is_negative}
 use Rattle.hv_stream_model.specs.Scripts.{Done, ◌>>=◌, Reads, nothing, one}
-use Rattle.hv_stream_model.specs.Fields.{Descriptor, U, Ue, Field, Codes, AllCodable, u, ue, se, code_num, signed_of, HeaderScript}
+use Rattle.hv_stream_model.specs.Fields.{Descriptor, U, Ue, Field, most_zeros, Codes, AllCodable, u, ue, se, code_num, signed_of, HeaderScript}
 use Rattle.hv_stream_model.specs.Headers.{ordering, vps_start, vps_end, sps_start, sps_depths, sps_end, Size, is_cropped, window, size_fields, pps, idr_start, qp_delta, fixed, free, read_ordering, is_side, read_offsets, read_window, read_size, read_sps, qp_from}
 use Rattle.hv_stream_model.specs.HeaderLaws.{SignedComesBack, IsAllowed, SizesAreAllowed, VideoParametersAreRead, SequenceParametersAreRead, PictureParametersAreRead, SliceHeadersAreRead, VideoParametersAreCodable, SequenceParametersAreCodable, PictureParametersAreCodable, SliceHeadersAreCodable}
 use Rattle.hv_stream_model.proofs.ScriptLemmas.{reads_then, reads_map, where_true}
@@ -112,9 +113,9 @@ reads_window size h = window_case size h (is_cropped size) refl
 reads_size : (size : Size) → IsAllowed size → Reads read_size (size_fields size) size
 reads_size size h =
     let width : is_side 4096 size.pic_width_in_luma_samples ≡ true =
-    side_is _ _ h.even_width h.width_least h.width_most in
+    side_is _ _ h.width_multiple h.width_least h.width_most in
     let height : is_side 2176 size.pic_height_in_luma_samples ≡ true =
-    side_is _ _ h.even_height h.height_least h.height_most in
+    side_is _ _ h.height_multiple h.height_least h.height_most in
     let both : (is_side 4096 size.pic_width_in_luma_samples &&
     is_side 2176 size.pic_height_in_luma_samples) ≡ true = rw (width, height) refl in
     one (one (where_true _ both (reads_window size h)))
@@ -143,10 +144,10 @@ reads_sps levels size few allowed =
 
 pub sizes_allowed : SizesAreAllowed
 sizes_allowed cfg valid = record {
-  even_width = omega arith;
+  width_multiple = omega arith;
   width_least = omega arith;
   width_most = omega arith;
-  even_height = omega arith;
+  height_multiple = omega arith;
   height_least = omega arith;
   height_most = omega arith;
   right = omega arith;
@@ -192,7 +193,7 @@ reads_idr_slice qp h =
 
 is_codable_as : Descriptor → ℕ → Bool
 is_codable_as (U n) value = nat_lt value (2 ^ n)
-is_codable_as Ue value = nat_lt value (2 ^ 64 - 1)
+is_codable_as Ue value = nat_lt value (2 ^ (most_zeros + 1) - 1)
 
 is_codable : Field → Bool
 is_codable field = is_codable_as field.question field.value
@@ -200,7 +201,7 @@ is_codable field = is_codable_as field.question field.value
 codes : (d : Descriptor) (value : ℕ) → is_codable_as d value ≡ true → Codes d value
 unfolding is_codable_as
 codes (U n) value e = ltb-true value (2 ^ n) e
-codes Ue value e = ltb-true value (2 ^ 64 - 1) e
+codes Ue value e = ltb-true value (2 ^ (most_zeros + 1) - 1) e
 
 codable : (fields : List Field) → list_all is_codable fields ≡ true → AllCodable fields
 unfolding is_codable
@@ -281,7 +282,7 @@ codable_idr_start : AllCodable idr_start
 unfolding is_codable is_codable_as
 codable_idr_start = codable idr_start refl
 
-pub small_code : (z : ℤ) (qp : ℕ) → z ≡ (pos qp -ℤ pos 26) → qp ≤ 51 → code_num z < 2 ^ 64 - 1
+pub small_code : (z : ℤ) (qp : ℕ) → z ≡ (pos qp -ℤ pos 26) → qp ≤ 51 → Codes Ue (code_num z)
 small_code (pos k) qp e h = let small : k ≤ 25 = omega (arith, ints) in omega arith
 small_code (negsuc k) qp e h = let small : k ≤ 25 = omega (arith, ints) in omega arith
 

@@ -11,4 +11,5 @@ mod SliceHeaderLemmas
 mod SliceStructureLemmas
 mod DeterminedLemmas
 mod WorkedUnits
-mod WorkedSets
+mod WorkedParameters
+mod WorkedSliceHeaders

@@ -1,4 +1,4 @@
--- Laws of scripts.
+-- Scripts one behind another, and what a script reads from an oracle that gives its answers.
 use Rattle.std.proofs.Common.{◌≡◌, Bool, true, List, [], ◌∷◌, ◌++◌, refl}
 use Rattle.std.specs.Prelude.{Option, Some}
 use Rattle.hv_types.specs.Bins.{Answered}

@@ -1,13 +1,14 @@
--- The reference sets of all groups: their sizes by computing all of them, and the order of their distances.
-use Rattle.std.proofs.Common.{◌≡◌, ℕ, zero, suc, ◌+◌, ◌-◌, ◌^◌, ◌<◌, ◌≤◌, Bool, true, false, cond, List, [], ◌∷◌, ◌++◌, length, map, refl, sym, ap, ap₂, ◌∙◌, arith, inl, inr}
+-- The slice headers of all groups are of this profile (7.3.6.1, 7.3.7): the sizes of their
+-- reference sets by computing all of them, and the order and range of their distances.
+use Rattle.std.proofs.Common.{◌≡◌, ℕ, zero, suc, ◌+◌, ◌-◌, ◌<◌, ◌≤◌, Bool, true, false, cond, List, [], ◌∷◌, ◌++◌, length, map, refl, sym, ap, ap₂, ◌∙◌, arith, inl, inr}
 use Rattle.std.specs.Prelude.{nat_lt, nat_eq, ◌&&◌}
 use Rattle.std.specs.List.{list_all}
 use Rattle.std.specs.Int.{abs_diff}
 use Rattle.std.proofs.lemmas.Bool.{and_parts, cases_lt, ltb-true}
 use Rattle.std.proofs.lemmas.Bool.Decides.{nat_tests}
 use Rattle.hv_group_model.specs.Structure.{Coded, coding, place_in, falling, rising, Kept, kept, is_kept, kept_among, references_at, ReferenceSet, reference_set, set_in, set_size}
-use Rattle.hv_stream_model.specs.Headers.{used_count}
-use Rattle.hv_stream_model.specs.HeaderLaws.{Rise, SlicesOfGroupsAreAllowed}
+use Rattle.hv_stream_model.specs.Headers.{most_count, used_count}
+use Rattle.hv_stream_model.specs.HeaderLaws.{Rise, AreWithin, SlicesOfGroupsAreAllowed}
 use Rattle.hv_group_model.proofs.LifeLemmas.{Life, life_in, kept_lives, kept_among-lives}
 
 -- ---- sizes
@@ -126,32 +127,54 @@ after_distance : (picture other : ℕ) → picture < other → abs_diff picture 
 after_distance picture other h = grind (arith, nat_tests)
 
 rise_more : (b : Bool) (from : ℕ) (k : Kept) (rest : List Kept) → from < k.distance →
-    k.distance < 2 ^ 64 → Rise k.distance rest → Rise from rest →
-    Rise from (cond b (k ∷ []) [] ++ rest)
-rise_more true from k rest far near behind others = (far, near, behind)
-rise_more false from k rest far near behind others = others
+    Rise k.distance rest → Rise from rest → Rise from (cond b (k ∷ []) [] ++ rest)
+rise_more true from k rest far behind others = (far, behind)
+rise_more false from k rest far behind others = others
 
-rise_before : (order : List Coded) (place picture n from : ℕ) → n ≤ picture → picture ≤ 64 →
+rise_before : (order : List Coded) (place picture n from : ℕ) → n ≤ picture →
     from ≤ picture - n → Rise from (kept_among order place picture (falling n))
-rise_before order place picture zero from h small near = tt
-rise_before order place picture (suc n) from h small near =
+rise_before order place picture zero from h near = tt
+rise_before order place picture (suc n) from h near =
     let far : abs_diff picture n ≡ picture - n = before_distance picture n (omega arith) in
     rise_more (is_kept order place n) from (kept order place picture n)
-    (kept_among order place picture (falling n)) (omega (arith, far)) (omega (arith, far))
-    (rise_before order place picture n (abs_diff picture n) (omega arith) small (omega (arith, far)))
-    (rise_before order place picture n from (omega arith) small (omega arith))
+    (kept_among order place picture (falling n)) (omega (arith, far))
+    (rise_before order place picture n (abs_diff picture n) (omega arith) (omega (arith, far)))
+    (rise_before order place picture n from (omega arith) (omega arith))
 
 rise_after : (order : List Coded) (place picture m next from : ℕ) → picture < next →
-    next + m ≤ 64 → from < next - picture →
-    Rise from (kept_among order place picture (rising m next))
-rise_after order place picture zero next from h small near = tt
-rise_after order place picture (suc m) next from h small near =
+    from < next - picture → Rise from (kept_among order place picture (rising m next))
+rise_after order place picture zero next from h near = tt
+rise_after order place picture (suc m) next from h near =
     let far : abs_diff picture next ≡ next - picture = after_distance picture next h in
     rise_more (is_kept order place next) from (kept order place picture next)
-    (kept_among order place picture (rising m (next + 1))) (omega (arith, far)) (omega (arith, far))
-    (rise_after order place picture m (next + 1) (abs_diff picture next) (omega arith) (omega arith)
+    (kept_among order place picture (rising m (next + 1))) (omega (arith, far))
+    (rise_after order place picture m (next + 1) (abs_diff picture next) (omega arith)
     (omega (arith, far)))
-    (rise_after order place picture m (next + 1) from (omega arith) (omega arith) (omega arith))
+    (rise_after order place picture m (next + 1) from (omega arith) (omega arith))
+
+within_more : (b : Bool) (most : ℕ) (k : Kept) (rest : List Kept) → k.distance ≤ most →
+    AreWithin most rest → AreWithin most (cond b (k ∷ []) [] ++ rest)
+within_more true most k rest near others = (near, others)
+within_more false most k rest near others = others
+
+within_before : (order : List Coded) (place picture n : ℕ) → n ≤ picture →
+    AreWithin picture (kept_among order place picture (falling n))
+within_before order place picture zero h = tt
+within_before order place picture (suc n) h =
+    let far : abs_diff picture n ≡ picture - n = before_distance picture n (omega arith) in
+    within_more (is_kept order place n) picture (kept order place picture n)
+    (kept_among order place picture (falling n)) (omega (arith, far))
+    (within_before order place picture n (omega arith))
+
+within_after : (order : List Coded) (place picture m next most : ℕ) → picture < next →
+    next + m ≤ most + 1 →
+    AreWithin (most - picture) (kept_among order place picture (rising m next))
+within_after order place picture zero next most h small = tt
+within_after order place picture (suc m) next most h small =
+    let far : abs_diff picture next ≡ next - picture = after_distance picture next h in
+    within_more (is_kept order place next) (most - picture) (kept order place picture next)
+    (kept_among order place picture (rising m (next + 1))) (omega (arith, far))
+    (within_after order place picture m (next + 1) most (omega arith) (omega arith))
 
 -- ---- headers
 
@@ -172,8 +195,11 @@ slices_allowed count levels qp k few low below =
         count_least = omega arith;
         count_most = omega arith;
         kept = omega (arith, size);
-        before = rise_before order place (suc k) (suc k) 0 (omega arith) (omega arith) (omega arith);
+        before = rise_before order place (suc k) (suc k) 0 (omega arith) (omega arith);
         after = rise_after order place (suc k) (count - 1 - suc k) (suc k + 1) 0 (omega arith)
+            (omega arith);
+        before_most = within_before order place (suc k) (suc k) (omega arith);
+        after_most = within_after order place (suc k) (count - 1 - suc k) (suc k + 1) most_count
             (omega arith) (omega arith);
         referred = (omega (arith, least), omega (arith, most));
         qp = omega arith;

@@ -1,4 +1,4 @@
--- The units that are found in bytes are those of which the bytes are the stream.
+-- The units that are found in bytes are those of which the bytes are the stream (Annex B).
 use Rattle.std.proofs.Common.{◌≡◌, ◌≢◌, ℕ, zero, suc, ◌+◌, ◌-◌, ◌*◌, ◌/◌, ◌%◌, ◌<◌, ◌≤◌, Bool, true, false, cond, List, [], ◌∷◌, ◌++◌, length, take, drop, refl, sym, ap, ap₂, ◌∙◌, subst, arith, append_assoc, take-append-drop}
 use Rattle.std.specs.Prelude.{not, nat_eq, nat_lt, ◌&&◌, Option, Some, None}
 use Rattle.std.specs.List.{list_all, starts_with}

@@ -1,12 +1,88 @@
--- NAL units: emulation prevention undone, and byte streams read back.
-use Rattle.std.proofs.Common.{◌≡◌, ◌≢◌, ℕ, zero, suc, ◌+◌, ◌-◌, ◌*◌, ◌/◌, ◌%◌, ◌<◌, ◌≤◌, Bool, true, false, cond, ◌&&◌, List, [], ◌∷◌, ◌++◌, length, take, drop, refl, sym, ap, ap₂, ◌∙◌, subst, arith, lt-ltb, ltb-false, length-append, eq-eqb}
+-- NAL units (7.3.1, Annex B): emulation prevention by a running number of zero bytes, and undone,
+-- and byte streams read back.
+use Rattle.std.proofs.Common.{◌≡◌, ◌≢◌, ℕ, zero, suc, ◌+◌, ◌-◌, ◌*◌, ◌/◌, ◌%◌, ◌<◌, ◌≤◌, Bool, true, false, cond, ◌&&◌, List, [], ◌∷◌, ◌++◌, length, take, drop, refl, sym, ap, ap₂, ◌∙◌, subst, arith, add-one, lt-ltb, ltb-false, length-append, eq-eqb}
 use Rattle.std.specs.Prelude.{nat_lt, nat_eq, replicate, Some}
-use Rattle.std.proofs.lemmas.Bool.{and_parts, and_left, and_right, ne_eqb, cond_both, cond-false}
+use Rattle.std.proofs.lemmas.Bool.{and_parts, and_left, and_right, ne_eqb, cond_both, cond-false, eqb-true}
 use Rattle.std.specs.Cmp.Lexicographic.{pointwise}
 use Rattle.std.specs.List.{list_all, starts_with}
 use Rattle.std.proofs.lemmas.List.{take_at, drop_at}
 use Rattle.hv_stream_model.specs.UnitLaws.{StreamsAreReadBack, UnitsMakeAStream}
-use Rattle.hv_stream_model.specs.Units.{run_after, needs_three, escape_after, escape, strip_after, strip, last_of, is_zero, is_unit_end, unit_length, same_bytes, is_escaped_payload, NalUnit, nal_bytes, IsUnit, IsByteStream, end, more, unit_of, unit_then, leading_zero_bytes, units_within}
+use Rattle.hv_stream_model.specs.ZeroRuns.{run_after, needs_three, escape_after, is_emulation_byte, strip_after, EscapeByRuns, StripByRuns}
+use Rattle.hv_stream_model.specs.Units.{end_in_zeros, escape_behind, escape, strip_behind, strip, last_of, is_zero, is_unit_end, unit_length, same_bytes, is_escaped_payload, NalUnit, nal_bytes, IsUnit, IsByteStream, end, more, unit_of, unit_then, leading_zero_bytes, units_within}
+
+-- ---- a running number of zero bytes
+
+some_byte : (byte : ℕ) → nat_eq (suc byte) 0 ≡ false
+some_byte byte = ne_eqb (suc byte) 0 (λ e. omega arith)
+
+end_in_zeros-runs : (before : List ℕ) → end_in_zeros before ≡ nat_lt 1 (leading_zero_bytes before)
+end_in_zeros-runs [] = refl
+end_in_zeros-runs (zero ∷ []) = refl
+end_in_zeros-runs (suc last ∷ []) = rw (some_byte last) refl
+end_in_zeros-runs (suc last ∷ byte ∷ others) = rw (some_byte last) refl
+end_in_zeros-runs (zero ∷ suc byte ∷ others) = rw (some_byte byte) refl
+end_in_zeros-runs (zero ∷ zero ∷ others) =
+    sym (lt-ltb 1 (suc (suc (leading_zero_bytes others))) (omega arith))
+
+-- the number after one byte more
+run_after-zeros : (before : List ℕ) (byte : ℕ) →
+    run_after (leading_zero_bytes before) byte ≡ leading_zero_bytes (byte ∷ before)
+run_after-zeros before byte =
+    ap (λ n. cond (is_zero byte) n 0) (add-one (leading_zero_bytes before))
+
+escape_case : (result : List ℕ) (byte : ℕ) (bytes : List ℕ) →
+    ((r : List ℕ) → escape_behind r bytes ≡ escape_after (leading_zero_bytes r) bytes) →
+    (t : Bool) →
+    cond t (3 ∷ []) [] ++
+    byte ∷ escape_behind (byte ∷ (cond t (3 ∷ []) [] ++ result)) bytes ≡
+    cond t (3 ∷ byte ∷ []) (byte ∷ []) ++
+    escape_after (run_after (cond t 0 (leading_zero_bytes result)) byte) bytes
+escape_case result byte bytes rest true =
+    ap (λ w. 3 ∷ byte ∷ w) (rest (byte ∷ 3 ∷ result) ∙
+    ap (λ n. escape_after n bytes) (sym (run_after-zeros (3 ∷ result) byte)))
+escape_case result byte bytes rest false =
+    ap (λ w. byte ∷ w) (rest (byte ∷ result) ∙
+    ap (λ n. escape_after n bytes) (sym (run_after-zeros result byte)))
+
+escape_behind-runs : (result bytes : List ℕ) →
+    escape_behind result bytes ≡ escape_after (leading_zero_bytes result) bytes
+escape_behind-runs result [] = refl
+escape_behind-runs result (byte ∷ bytes) =
+    ap (λ z. cond (z && nat_lt byte 4) (3 ∷ []) [] ++
+    byte ∷ escape_behind (byte ∷ (cond (z && nat_lt byte 4) (3 ∷ []) [] ++ result)) bytes)
+    (end_in_zeros-runs result) ∙
+    escape_case result byte bytes (λ r. escape_behind-runs r bytes)
+    (needs_three (leading_zero_bytes result) byte)
+
+-- the last two bytes of the result are zeros where more than one zero byte stands at its end
+pub escape-runs : EscapeByRuns
+escape-runs bytes = escape_behind-runs [] bytes
+
+strip_case : (before : List ℕ) (byte : ℕ) (bytes : List ℕ) →
+    ((b : List ℕ) → strip_behind b bytes ≡ strip_after (leading_zero_bytes b) bytes) →
+    (t : Bool) → (t ≡ true → byte ≡ 3) →
+    cond t [] (byte ∷ []) ++ strip_behind (byte ∷ before) bytes ≡
+    cond t [] (byte ∷ []) ++
+    strip_after (cond t 0 (run_after (leading_zero_bytes before) byte)) bytes
+strip_case before byte bytes rest true three =
+    rest (byte ∷ before) ∙
+    ap (λ b. strip_after (leading_zero_bytes (b ∷ before)) bytes) (three refl)
+strip_case before byte bytes rest false three =
+    ap (λ w. byte ∷ w) (rest (byte ∷ before) ∙
+    ap (λ n. strip_after n bytes) (sym (run_after-zeros before byte)))
+
+strip_behind-runs : (before bytes : List ℕ) →
+    strip_behind before bytes ≡ strip_after (leading_zero_bytes before) bytes
+strip_behind-runs before [] = refl
+strip_behind-runs before (byte ∷ bytes) =
+    let run : ℕ = leading_zero_bytes before in
+    ap (λ z. cond (z && nat_eq byte 3) [] (byte ∷ []) ++ strip_behind (byte ∷ before) bytes)
+    (end_in_zeros-runs before) ∙
+    strip_case before byte bytes (λ b. strip_behind-runs b bytes) (is_emulation_byte run byte)
+    (λ e. eqb-true byte 3 (and_parts (nat_lt 1 run) (nat_eq byte 3) e).1)
+
+pub strip-runs : StripByRuns
+strip-runs bytes = strip_behind-runs [] bytes
 
 -- ---- emulation prevention
 
@@ -32,7 +108,9 @@ strip_after-escape_after run (byte ∷ bytes) =
     byte) refl
 
 pub strip-escape : (bytes : List ℕ) → strip (escape bytes) ≡ bytes
-strip-escape bytes = strip_after-escape_after 0 bytes
+strip-escape bytes =
+    ap strip (escape-runs bytes) ∙ strip-runs (escape_after 0 bytes) ∙
+    strip_after-escape_after 0 bytes
 
 -- ---- what an escaped payload looks like
 
@@ -56,6 +134,9 @@ clean_escape : (run : ℕ) (bytes : List ℕ) → Clean run (escape_after run by
 clean_escape run [] = tt
 clean_escape run (byte ∷ bytes) =
     clean_case run byte bytes (λ run'. clean_escape run' bytes) (needs_three run byte) refl
+
+clean_payload : (payload : List ℕ) → Clean 0 (escape payload)
+clean_payload payload = subst (Clean 0) (sym (escape-runs payload)) (clean_escape 0 payload)
 
 -- the last of two bytes or more is the last behind the first
 last_of-behind : (byte : ℕ) (bytes : List ℕ) → last_of bytes ≢ 0 → last_of (byte ∷ bytes) ≢ 0
@@ -154,6 +235,10 @@ last_of-escape run (byte ∷ second ∷ bytes) h =
     (λ e. last_of-behind 3 (byte ∷ rest) (last_of-behind byte rest ends)) (λ e. last_of-behind byte
     rest ends)
 
+last_of-payload : (payload : List ℕ) → last_of payload ≢ 0 → last_of (escape payload) ≢ 0
+last_of-payload payload h =
+    subst (λ bytes. last_of bytes ≢ 0) (sym (escape-runs payload)) (last_of-escape 0 payload h)
+
 pub same_bytes_self : (bytes : List ℕ) → same_bytes bytes bytes ≡ true
 same_bytes_self [] = refl
 same_bytes_self (byte ∷ bytes) = rw (eq-eqb byte byte refl, same_bytes_self bytes) refl
@@ -197,7 +282,7 @@ unit_clean unit u =
       (λ l. absurd (omega arith)),
       (
         (λ l. absurd (omega (arith, l, short))),
-        subst (λ n. Clean n (escape unit.payload)) (sym none) (clean_escape 0 unit.payload),
+        subst (λ n. Clean n (escape unit.payload)) (sym none) (clean_payload unit.payload),
       ),
     )
 
@@ -206,7 +291,7 @@ unit_ends unit u =
     let first : ℕ = unit.nal_unit_type * 2 + unit.nuh_layer_id / 32 in
     let second : ℕ = unit.nuh_layer_id % 32 * 8 + unit.TemporalId + 1 in
     last_of-behind first (second ∷ escape unit.payload)
-    (last_of-behind second (escape unit.payload) (last_of-escape 0 unit.payload u.ends))
+    (last_of-behind second (escape unit.payload) (last_of-payload unit.payload u.ends))
 
 -- ---- streams
 

@@ -1,8 +1,8 @@
--- Worked units and Exp-Golomb codes, computed by the definitions.
-use Rattle.std.proofs.Common.{◌≡◌, [], ◌∷◌, ◌++◌, refl}
-use Rattle.std.specs.Prelude.{Some, None, negsuc}
-use Rattle.hv_stream_model.specs.Fields.{ue, se, field_bits, log2_of, read_field, Ue}
-use Rattle.hv_stream_model.specs.Units.{NalUnit, unit_bytes, strip, units_of}
+-- Worked units (7.3.1, Annex B) and Exp-Golomb codes (9.2), computed by the definitions.
+use Rattle.std.proofs.Common.{◌≡◌, ℕ, ◌+◌, List, [], ◌∷◌, ◌++◌, refl, arith}
+use Rattle.std.specs.Prelude.{Some, None, negsuc, replicate}
+use Rattle.hv_stream_model.specs.Fields.{ue, se, field_bits, log2_of, read_field, Ue, Codes}
+use Rattle.hv_stream_model.specs.Units.{NalUnit, unit_bytes, escape, strip, units_of}
 
 zero_code : field_bits (ue 0) ≡ 1 ∷ []
 unfolding log2_of
@@ -19,12 +19,36 @@ minus_two_code = refl
 four_read : read_field (0 ∷ 0 ∷ 1 ∷ 0 ∷ 1 ∷ 1 ∷ []) Ue ≡ Some (4, 1 ∷ [])
 four_read = refl
 
+-- the bits end within a number
 bits_end : read_field (0 ∷ 0 ∷ 0 ∷ 0 ∷ 0 ∷ 0 ∷ 0 ∷ 0 ∷ []) Ue ≡ None
 bits_end = refl
 
+-- the greatest number, with 32 zeros in front; and 33 zeros
+abbrev zeros_then_ones : ℕ → List ℕ
+zeros_then_ones k = replicate k 0 ++ replicate (k + 1) 1
+
+greatest_code : read_field (zeros_then_ones 32) Ue ≡ Some (8589934590, [])
+greatest_code = refl
+
+greatest_codable : Codes Ue 8589934590
+greatest_codable = omega arith
+
+greatest_not_exceeded : Codes Ue 8589934591 → ⊥
+greatest_not_exceeded h = omega arith
+
+too_long : read_field (zeros_then_ones 33) Ue ≡ None
+too_long = refl
+
+-- ---- units
+
 -- a suffix SEI unit whose payload has three zero bytes
 abbrev zeros_unit : NalUnit
-zeros_unit = record { nal_unit_type = 40; nuh_layer_id = 0; TemporalId = 0; payload = 0 ∷ 0 ∷ 0 ∷ 128 ∷ [] }
+zeros_unit = record {
+  nal_unit_type = 40;
+  nuh_layer_id = 0;
+  TemporalId = 0;
+  payload = 0 ∷ 0 ∷ 0 ∷ 128 ∷ [];
+}
 
 zeros_written : unit_bytes zeros_unit ≡ 0 ∷ 0 ∷ 0 ∷ 1 ∷ 80 ∷ 1 ∷ 0 ∷ 0 ∷ 3 ∷ 0 ∷ 128 ∷ []
 zeros_written = refl
@@ -32,7 +56,9 @@ zeros_written = refl
 zeros_stripped : strip (0 ∷ 0 ∷ 3 ∷ 0 ∷ 128 ∷ []) ≡ 0 ∷ 0 ∷ 0 ∷ 128 ∷ []
 zeros_stripped = refl
 
-two_units : units_of (unit_bytes zeros_unit ++ unit_bytes zeros_unit ++ 0 ∷ 0 ∷ []) ≡ Some (zeros_unit ∷ zeros_unit ∷ [])
+two_units :
+    units_of (unit_bytes zeros_unit ++ unit_bytes zeros_unit ++ 0 ∷ 0 ∷ []) ≡
+    Some (zeros_unit ∷ zeros_unit ∷ [])
 two_units = refl
 
 no_units : units_of [] ≡ Some []
@@ -43,3 +69,21 @@ no_prefix = refl
 
 needless_three : units_of (0 ∷ 0 ∷ 1 ∷ 80 ∷ 1 ∷ 0 ∷ 0 ∷ 3 ∷ 5 ∷ []) ≡ None
 needless_three = refl
+
+-- ---- emulation prevention, behind two zero bytes and behind one
+
+three_escaped : escape (0 ∷ 0 ∷ 3 ∷ 0 ∷ 3 ∷ []) ≡ 0 ∷ 0 ∷ 3 ∷ 3 ∷ 0 ∷ 3 ∷ []
+three_escaped = refl
+
+four_not_escaped : escape (0 ∷ 0 ∷ 4 ∷ []) ≡ 0 ∷ 0 ∷ 4 ∷ []
+four_not_escaped = refl
+
+-- the byte 3 that was put comes between zero bytes of the payload
+five_zeros : escape (0 ∷ 0 ∷ 0 ∷ 0 ∷ 0 ∷ []) ≡ 0 ∷ 0 ∷ 3 ∷ 0 ∷ 0 ∷ 3 ∷ 0 ∷ []
+five_zeros = refl
+
+one_three_left_out : strip (0 ∷ 0 ∷ 3 ∷ 3 ∷ 0 ∷ 3 ∷ []) ≡ 0 ∷ 0 ∷ 3 ∷ 0 ∷ 3 ∷ []
+one_three_left_out = refl
+
+four_not_left_out : strip (0 ∷ 0 ∷ 4 ∷ 2 ∷ []) ≡ 0 ∷ 0 ∷ 4 ∷ 2 ∷ []
+four_not_left_out = refl

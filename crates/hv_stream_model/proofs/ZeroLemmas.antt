@@ -1,4 +1,4 @@
--- Small facts of lists of bits and bytes.
+-- Zero bits and zero bytes: their number, and that they are bits.
 use Rattle.std.proofs.Common.{◌≡◌, ℕ, zero, suc, ◌+◌, true, List, ◌∷◌, ◌++◌, length, refl, ap, arith}
 use Rattle.std.specs.Prelude.{replicate}
 use Rattle.std.specs.List.{list_all}

@@ -23,7 +23,8 @@ RemainderIsEnough = (k n v : ℕ) → k ≤ n → digits k (v % 2 ^ n) ≡ digit
 
 -- two numbers in one
 abbrev pub PairsAreJoined : Type 0
-PairsAreJoined = (j k a v : ℕ) → v < 2 ^ k → digits (j + k) (a * 2 ^ k + v) ≡ digits j a ++ digits k v
+PairsAreJoined =
+    (j k a v : ℕ) → v < 2 ^ k → digits (j + k) (a * 2 ^ k + v) ≡ digits j a ++ digits k v
 
 abbrev pub DigitsOfZero : Type 0
 DigitsOfZero = (k : ℕ) → digits k 0 ≡ replicate k 0

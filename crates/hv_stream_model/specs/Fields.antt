@@ -1,5 +1,5 @@
 -- Fields of headers and the descriptors that code them (7.2, 9.2).
-use Rattle.std.specs.Prelude.{ℕ, zero, suc, ◌+◌, ◌-◌, ◌*◌, ◌/◌, ◌%◌, ◌^◌, cond, nat_eq, nat_lt, nat_le, List, [], ◌∷◌, ◌++◌, length, take, drop, replicate, Option, Some, None, ℤ, pos, negsuc, neg_ℤ, ◌<◌}
+use Rattle.std.specs.Prelude.{ℕ, zero, suc, ◌+◌, ◌-◌, ◌*◌, ◌/◌, ◌%◌, ◌^◌, cond, nat_eq, nat_lt, nat_le, ◌&&◌, List, [], ◌∷◌, ◌++◌, length, take, drop, replicate, Option, Some, None, ℤ, pos, negsuc, neg_ℤ, ◌<◌}
 use Rattle.hv_types.specs.Bins.{Answered}
 use Rattle.hv_stream_model.specs.Bits.{digits, number_of}
 use Rattle.hv_stream_model.specs.Scripts.{Script, run}
@@ -57,10 +57,14 @@ abbrev pub bits_of_fields : List Field → List ℕ
 bits_of_fields [] = []
 bits_of_fields (field ∷ fields) = field_bits field ++ bits_of_fields fields
 
+-- a code has at most so many zeros in front
+abbrev pub most_zeros : ℕ
+most_zeros = 32
+
 -- the descriptor can code the value
 abbrev pub Codes : Descriptor → ℕ → Type 0
 Codes (U n) value = value < 2 ^ n
-Codes Ue value = value < 2 ^ 64 - 1
+Codes Ue value = value < 2 ^ (most_zeros + 1) - 1
 
 abbrev pub AllCodable : List Field → Type 0
 AllCodable [] = Unit {0}
@@ -72,12 +76,14 @@ abbrev pub leading_zeros : List ℕ → ℕ
 leading_zeros [] = 0
 leading_zeros (bit ∷ bits) = cond (nat_eq bit 0) (suc (leading_zeros bits)) 0
 
--- the value at the front of the bits, and those behind it; none where the bits end
+-- the value at the front of the bits, and those behind it; none where the bits end, or where more
+-- zeros come first than a code may have
 abbrev pub read_field : List ℕ → Descriptor → Option (ℕ × List ℕ)
-read_field bits (U n) = cond (nat_le n (length bits)) (Some (number_of (take n bits), drop n bits)) None
+read_field bits (U n) =
+    cond (nat_le n (length bits)) (Some (number_of (take n bits), drop n bits)) None
 read_field bits Ue =
     let k = leading_zeros bits in
-    cond (nat_le (2 * k + 1) (length bits))
+    cond (nat_le k most_zeros && nat_le (2 * k + 1) (length bits))
     (Some (number_of (take (k + 1) (drop k bits)) - 1, drop (2 * k + 1) bits))
     None
 

@@ -1,5 +1,5 @@
 -- What is read of a header is what its table was made with.
-use Rattle.std.specs.Prelude.{◌≡◌, ℕ, suc, ◌+◌, ◌%◌, ◌^◌, ◌<◌, ◌≤◌, ℤ, List, [], ◌∷◌, ◌++◌}
+use Rattle.std.specs.Prelude.{◌≡◌, ℕ, suc, ◌+◌, ◌-◌, ◌%◌, ◌<◌, ◌≤◌, ℤ, List, [], ◌∷◌, ◌++◌}
 use Rattle.hv_types.specs.declared.bins.SliceKind.{SliceKind}
 use Rattle.hv_types.specs.declared.bins.SliceKind.TheVariants.{I, P}
 use Rattle.hv_types.specs.declared.settings.Settings.{Settings}
@@ -7,7 +7,7 @@ use Rattle.hv_types.specs.Configuration as configuration
 use Rattle.hv_stream_model.specs.Scripts.{Reads}
 use Rattle.hv_stream_model.specs.Fields.{Field, AllCodable, bits_of_fields, code_num, signed_of, HeaderScript}
 use Rattle.hv_group_model.specs.Structure.{Kept, set_size, reference_set, coded_of, qp_at}
-use Rattle.hv_stream_model.specs.Headers.{Size, size_of, vps, sps, pps, idr_slice, read_vps, read_sps, read_pps, read_idr_slice, SliceHeader, used_count, slice, slice_of, read_slice}
+use Rattle.hv_stream_model.specs.Headers.{Size, size_of, vps, sps, pps, idr_slice, read_vps, read_sps, read_pps, read_idr_slice, SliceHeader, most_count, used_count, slice, slice_header_of, read_slice}
 
 -- the signed number of a codeNum, and the codeNum of a signed number (9.2.2)
 abbrev pub SignedComesBack : Type 0
@@ -15,10 +15,10 @@ SignedComesBack = (value : ℤ) → signed_of (code_num value) ≡ value
 
 -- the sizes of this profile
 pub record IsAllowed (size : Size) : Type 0 where
-  pub even_width : size.pic_width_in_luma_samples % 8 ≡ 0
+  pub width_multiple : size.pic_width_in_luma_samples % 8 ≡ 0
   pub width_least : 8 ≤ size.pic_width_in_luma_samples
   pub width_most : size.pic_width_in_luma_samples ≤ 4096
-  pub even_height : size.pic_height_in_luma_samples % 8 ≡ 0
+  pub height_multiple : size.pic_height_in_luma_samples % 8 ≡ 0
   pub height_least : 8 ≤ size.pic_height_in_luma_samples
   pub height_most : size.pic_height_in_luma_samples ≤ 2176
   pub right : size.conf_win_right_offset ≤ 3
@@ -59,10 +59,15 @@ SliceHeadersAreCodable = (qp : ℕ) → qp ≤ 51 → AllCodable (idr_slice qp)
 
 -- ---- slice headers of other pictures than an IDR
 
--- the pictures of one side of a set stand farther and farther from one at this distance, all near enough to be coded
+-- the pictures of one side of a set stand farther and farther from one at this distance
 abbrev pub Rise : ℕ → List Kept → Type 0
 Rise from [] = Unit {0}
-Rise from (kept ∷ rest) = (from < kept.distance) × (kept.distance < 2 ^ 64) × Rise kept.distance rest
+Rise from (kept ∷ rest) = (from < kept.distance) × Rise kept.distance rest
+
+-- and none of them farther than this
+abbrev pub AreWithin : ℕ → List Kept → Type 0
+AreWithin most [] = Unit {0}
+AreWithin most (kept ∷ rest) = (kept.distance ≤ most) × AreWithin most rest
 
 -- a P slice refers to one picture or to two
 abbrev pub AreReferred : SliceKind → ℕ → Type 0
@@ -72,10 +77,13 @@ AreReferred P used = (1 ≤ used) × (used ≤ 2)
 -- the slice headers of this profile, by the number of temporal levels
 pub record IsAllowedSlice (levels : ℕ) (header : SliceHeader) : Type 0 where
   pub count_least : 1 ≤ header.slice_pic_order_cnt_lsb
-  pub count_most : header.slice_pic_order_cnt_lsb ≤ 127
+  pub count_most : header.slice_pic_order_cnt_lsb ≤ most_count
   pub kept : set_size header.references ≤ levels + 1
   pub before : Rise 0 header.references.before
   pub after : Rise 0 header.references.after
+  -- each picture of the set has a count from 0 to the greatest
+  pub before_most : AreWithin header.slice_pic_order_cnt_lsb header.references.before
+  pub after_most : AreWithin (most_count - header.slice_pic_order_cnt_lsb) header.references.after
   pub referred : AreReferred header.slice_type (used_count header.references)
   pub qp : header.qp ≤ 51
 
@@ -102,13 +110,13 @@ header_of count levels qp picture = record {
 abbrev pub SlicesOfGroupsAreAllowed : Type 0
 SlicesOfGroupsAreAllowed =
     (count levels qp k : ℕ) → count ≤ 64 → levels ≤ 3 → suc k < count →
-    (slice_of count levels qp (suc k) ≡ slice (header_of count levels qp (suc k))) ×
+    (slice_header_of count levels qp (suc k) ≡ slice (header_of count levels qp (suc k))) ×
     IsAllowedSlice levels (header_of count levels qp (suc k))
 
 -- ---- bits
 
--- Of fields that a script reads, with any bits behind theirs, all these bits tell which fields they are, what the script
--- reads, and what the bits behind are.
+-- Of fields that a script reads, with any bits behind theirs, all these bits tell which fields they
+-- are, what the script reads, and what the bits behind are.
 abbrev pub BitsDetermineFields : Type 0 → Type 0
 BitsDetermineFields A =
     (script : HeaderScript A) (fields others : List Field) (a b : A) (rest more : List ℕ) →

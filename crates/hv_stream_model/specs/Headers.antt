@@ -1,5 +1,5 @@
--- Parameter sets and slice segment headers (7.3.2, 7.3.6): one table of fields each, read from both ends. What this
--- profile leaves free are the parameters of the tables.
+-- Parameter sets and slice segment headers (7.3.2, 7.3.6): one table of fields each, read from both
+-- ends. What this profile leaves free are the parameters of the tables.
 use Rattle.std.specs.Prelude.{ℕ, zero, suc, ◌+◌, ◌-◌, ◌/◌, ◌%◌, Bool, cond, not, nat_eq, nat_lt, nat_le, ◌&&◌, List, [], ◌∷◌, ◌++◌, length, ℤ, pos, ◌+ℤ◌, ◌-ℤ◌}
 use Rattle.std.specs.Int.RustNames.{unsigned_abs}
 use Rattle.std.specs.Int.{is_negative}
@@ -9,7 +9,7 @@ use Rattle.hv_types.specs.declared.bins.SliceKind.TheVariants.{I, P}
 use Rattle.hv_types.specs.declared.settings.Settings.{Settings}
 use Rattle.hv_types.specs.Configuration.{padded_width, padded_height}
 use Rattle.hv_stream_model.specs.Bits.{bytes_of}
-use Rattle.hv_stream_model.specs.Units.{unit_of_payload}
+use Rattle.hv_stream_model.specs.Units.{VPS_NUT, SPS_NUT, PPS_NUT, unit_of_payload}
 use Rattle.hv_stream_model.specs.Fields.{Descriptor, U, Ue, Field, u, ue, se, signed_of, HeaderScript, bits_of_fields, aligned}
 use Rattle.hv_group_model.specs.Structure.{Kept, ReferenceSet, reference_set, coded_of, qp_at}
 use Rattle.hv_stream_model.specs.Scripts.{Done, Ask, only_if, ◌>>=◌}
@@ -75,7 +75,8 @@ sps_start =
     ue 1 ∷  -- chroma_format_idc
     [])
 
--- the size of a padded picture, and what of it is not shown at the right and at the bottom, in chroma samples
+-- the size of a padded picture, and what of it isn't shown at the right and at the bottom, in
+-- chroma samples
 pub record Size : Type 0 where
   pub pic_width_in_luma_samples : ℕ
   pub pic_height_in_luma_samples : ℕ
@@ -184,10 +185,14 @@ idr_slice qp = idr_start ++ se (qp_delta qp) ∷ []
 
 -- ---- slice_segment_header of another picture than an IDR
 
+-- The greatest slice_pic_order_cnt_lsb of this profile. It has 8 bits, so that it is the picture
+-- order count itself (8.3.1).
+abbrev pub most_count : ℕ
+most_count = 127
+
 -- what of it is free
 pub record SliceHeader : Type 0 where
   pub slice_type : SliceKind
-  -- with 8 bits, so that it is the picture order count itself
   pub slice_pic_order_cnt_lsb : ℕ
   pub references : ReferenceSet
   pub qp : ℕ
@@ -200,8 +205,8 @@ type_code I = 2
 abbrev pub bit_of : Bool → ℕ
 bit_of flag = cond flag 1 0
 
--- st_ref_pic_set (7.3.7), one side of it, behind a picture at this distance: delta_poc_s0_minus1 and
--- used_by_curr_pic_s0_flag, or delta_poc_s1_minus1 and used_by_curr_pic_s1_flag
+-- st_ref_pic_set (7.3.7), one side of it, behind a picture at this distance: delta_poc_s0_minus1
+-- and used_by_curr_pic_s0_flag, or delta_poc_s1_minus1 and used_by_curr_pic_s1_flag
 abbrev pub side_fields : ℕ → List Kept → List Field
 side_fields from [] = []
 side_fields from (kept ∷ rest) =
@@ -266,20 +271,23 @@ size_of s = record {
 
 -- a parameter set, with its trailing bits
 abbrev pub parameter_set : ℕ → List Field → List ℕ
-parameter_set nal_unit_type fields = unit_of_payload nal_unit_type (bytes_of (aligned (bits_of_fields fields)))
+parameter_set nal_unit_type fields =
+    unit_of_payload nal_unit_type (bytes_of (aligned (bits_of_fields fields)))
 
 -- VPS, SPS and PPS
 abbrev pub parameter_sets : Settings → List ℕ
 parameter_sets cfg =
-    parameter_set 32 (vps cfg.levels) ++ parameter_set 33 (sps cfg.levels (size_of cfg)) ++ parameter_set 34 pps
+    parameter_set VPS_NUT (vps cfg.levels) ++
+    parameter_set SPS_NUT (sps cfg.levels (size_of cfg)) ++
+    parameter_set PPS_NUT pps
 
 -- ---- the slices of a group
 
--- the header of a picture of a group of so many, with these levels and this quantiser: picture 0 is an IDR picture, the
--- others are P pictures
-abbrev pub slice_of : ℕ → ℕ → ℕ → ℕ → List Field
-slice_of count levels qp zero = idr_slice (qp_at qp 0)
-slice_of count levels qp (suc k) =
+-- the header of a picture of a group of so many, with these levels and this quantiser: picture 0 is
+-- an IDR picture, the others are P pictures
+abbrev pub slice_header_of : ℕ → ℕ → ℕ → ℕ → List Field
+slice_header_of count levels qp zero = idr_slice (qp_at qp 0)
+slice_header_of count levels qp (suc k) =
     slice (record {
       slice_type = P;
       slice_pic_order_cnt_lsb = suc k;
@@ -292,7 +300,8 @@ slice_of count levels qp (suc k) =
 -- reads each field, and fails at another value
 abbrev pub fixed : List Field → HeaderScript (Unit {0})
 fixed [] = Done tt
-fixed (field ∷ fields) = Ask field.question (λ value. only_if (nat_eq value field.value) (fixed fields))
+fixed (field ∷ fields) =
+    Ask field.question (λ value. only_if (nat_eq value field.value) (fixed fields))
 
 -- reads a free value
 abbrev pub free : Descriptor → HeaderScript ℕ
@@ -341,7 +350,8 @@ abbrev pub read_size : HeaderScript Size
 read_size =
     free Ue >>= λ width.
     free Ue >>= λ height.
-    only_if (is_side 4096 width && is_side 2176 height) (free (U 1) >>= λ flag. read_window width height flag)
+    only_if (is_side 4096 width && is_side 2176 height)
+    (free (U 1) >>= λ flag. read_window width height flag)
 
 -- the number of temporal levels, and the size
 abbrev pub read_sps : HeaderScript (ℕ × Size)
@@ -365,23 +375,26 @@ qp_from code =
 abbrev pub read_idr_slice : HeaderScript ℕ
 read_idr_slice = fixed idr_start >>= λ _. free Ue >>= λ code. qp_from code
 
--- one side of a set: so many pictures, behind one at this distance
-abbrev pub read_side : ℕ → ℕ → HeaderScript (List Kept)
-read_side zero from = Done []
-read_side (suc count) from =
+-- one side of a set: so many pictures, behind one at this distance, and none farther than the first
+-- number says
+abbrev pub read_side : ℕ → ℕ → ℕ → HeaderScript (List Kept)
+read_side most zero from = Done []
+read_side most (suc count) from =
     free Ue >>= λ delta.
-    free (U 1) >>= λ flag.
-    read_side count (from + delta + 1) >>= λ rest.
-    Done (record { distance = from + delta + 1; is_used = nat_eq flag 1 } ∷ rest)
+    only_if (nat_le (from + delta + 1) most)
+    (free (U 1) >>= λ flag.
+    read_side most count (from + delta + 1) >>= λ rest.
+    Done (record { distance = from + delta + 1; is_used = nat_eq flag 1 } ∷ rest))
 
--- a set of at most one picture more than there are levels
-abbrev pub read_set : ℕ → HeaderScript ReferenceSet
-read_set levels =
+-- The set of the picture of this count: at most one picture more than there are levels, each of a
+-- count from 0 to the greatest.
+abbrev pub read_set : ℕ → ℕ → HeaderScript ReferenceSet
+read_set levels count =
     free Ue >>= λ negative.
     free Ue >>= λ positive.
     only_if (nat_le (negative + positive) (levels + 1))
-    (read_side negative 0 >>= λ before.
-    read_side positive 0 >>= λ after.
+    (read_side count negative 0 >>= λ before.
+    read_side (most_count - count) positive 0 >>= λ after.
     Done (record { before = before; after = after }))
 
 abbrev pub type_from : ℕ → HeaderScript SliceKind
@@ -398,9 +411,9 @@ read_slice levels =
     free Ue >>= λ code.
     type_from code >>= λ slice_type.
     free (U 8) >>= λ count.
-    only_if (nat_le 1 count && nat_le count 127)
+    only_if (nat_le 1 count && nat_le count most_count)
     (fixed (u 1 0 ∷ []) >>= λ _.
-    read_set levels >>= λ references.
+    read_set levels count >>= λ references.
     fixed sao_flags >>= λ _.
     read_active slice_type (used_count references) >>= λ _.
     free Ue >>= λ delta.

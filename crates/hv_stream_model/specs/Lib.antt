@@ -5,6 +5,7 @@ pub mod Scripts
 pub mod Fields
 pub mod FieldLaws
 pub mod Units
+pub mod ZeroRuns
 pub mod UnitLaws
 pub mod StreamLaws
 pub mod Headers

@@ -1,5 +1,6 @@
--- Parsers as scripts: questions in order, each asked in the light of the answers before it. A syntax
--- structure of 7.3 is a script; what answers it are bits, a list of bins, or the arithmetic decoder.
+-- Parsers as scripts: questions in order, each asked in the light of the answers before it. A
+-- syntax structure of 7.3 is a script; what answers it are bits, a list of bins, or the arithmetic
+-- decoder.
 use Rattle.std.specs.Prelude.{Bool, true, false, List, [], ◌∷◌, Option, Some, None}
 use Rattle.hv_types.specs.Bins.{Answered}
 

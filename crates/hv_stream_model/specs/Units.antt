@@ -1,41 +1,55 @@
 -- NAL units (7.3.1), and the byte stream that they stand in (Annex B).
-use Rattle.std.specs.Prelude.{◌≢◌, ℕ, zero, suc, ◌+◌, ◌-◌, ◌*◌, ◌/◌, ◌%◌, ◌<◌, Bool, cond, not, nat_eq, nat_lt, ◌&&◌, ◌||◌, List, [], ◌∷◌, ◌++◌, length, take, drop, replicate, Option, Some, None}
+use Rattle.std.specs.Prelude.{◌≢◌, ℕ, zero, suc, ◌+◌, ◌-◌, ◌*◌, ◌/◌, ◌%◌, ◌<◌, Bool, false, cond, not, nat_eq, nat_lt, ◌&&◌, ◌||◌, List, [], ◌∷◌, ◌++◌, length, take, drop, replicate, Option, Some, None}
 use Rattle.std.specs.List.{list_all, starts_with}
 use Rattle.std.specs.Cmp.Lexicographic.{pointwise}
 
 -- ---- emulation prevention (7.3.1.1, 7.4.2)
 
--- how many zero bytes stand at the end of what came, after one more byte
-abbrev pub run_after : ℕ → ℕ → ℕ
-run_after run byte = cond (nat_eq byte 0) (run + 1) 0
+-- the bytes before a place, the last of them first: the last two are zeros
+abbrev pub end_in_zeros : List ℕ → Bool
+end_in_zeros [] = false
+end_in_zeros (last ∷ []) = false
+end_in_zeros (last ∷ before ∷ others) = nat_eq last 0 && nat_eq before 0
 
-abbrev pub needs_three : ℕ → ℕ → Bool
-needs_three run byte = nat_lt 1 run && nat_lt byte 4
-
-abbrev pub escape_after : ℕ → List ℕ → List ℕ
-escape_after run [] = []
-escape_after run (byte ∷ bytes) =
-    let three = needs_three run byte in
-    cond three (3 ∷ byte ∷ []) (byte ∷ []) ++ escape_after (run_after (cond three 0 run) byte) bytes
+-- what follows in the result, where these bytes of it are there
+abbrev pub escape_behind : List ℕ → List ℕ → List ℕ
+escape_behind result [] = []
+escape_behind result (byte ∷ bytes) =
+    let three = cond (end_in_zeros result && nat_lt byte 4) (3 ∷ []) [] in
+    three ++ byte ∷ escape_behind (byte ∷ (three ++ result)) bytes
 
 -- a byte 3 is put before each byte of at most 3 that follows two zero bytes of the result
 abbrev pub escape : List ℕ → List ℕ
-escape bytes = escape_after 0 bytes
+escape bytes = escape_behind [] bytes
 
-abbrev pub is_emulation_byte : ℕ → ℕ → Bool
-is_emulation_byte run byte = nat_lt 1 run && nat_eq byte 3
-
-abbrev pub strip_after : ℕ → List ℕ → List ℕ
-strip_after run [] = []
-strip_after run (byte ∷ bytes) =
-    let three = is_emulation_byte run byte in
-    cond three [] (byte ∷ []) ++ strip_after (cond three 0 (run_after run byte)) bytes
+-- what is left of bytes that follow these
+abbrev pub strip_behind : List ℕ → List ℕ → List ℕ
+strip_behind before [] = []
+strip_behind before (byte ∷ bytes) =
+    cond (end_in_zeros before && nat_eq byte 3) [] (byte ∷ []) ++
+    strip_behind (byte ∷ before) bytes
 
 -- each byte 3 that follows two zero bytes is left out
 abbrev pub strip : List ℕ → List ℕ
-strip bytes = strip_after 0 bytes
+strip bytes = strip_behind [] bytes
 
 -- ---- units
+
+-- nal_unit_type of the units of this profile (7.4.2.2, table 7-1)
+abbrev pub TRAIL_R : ℕ
+TRAIL_R = 1
+
+abbrev pub IDR_N_LP : ℕ
+IDR_N_LP = 20
+
+abbrev pub VPS_NUT : ℕ
+VPS_NUT = 32
+
+abbrev pub SPS_NUT : ℕ
+SPS_NUT = 33
+
+abbrev pub PPS_NUT : ℕ
+PPS_NUT = 34
 
 pub record NalUnit : Type 0 where
   pub nal_unit_type : ℕ
@@ -44,7 +58,8 @@ pub record NalUnit : Type 0 where
   -- the raw byte sequence payload
   pub payload : List ℕ
 
--- nal_unit_header (7.3.1.2): the forbidden zero bit, six bits of type, six of layer, three of temporal id plus 1
+-- nal_unit_header (7.3.1.2): the forbidden zero bit, six bits of type, six of layer, three of
+-- temporal id plus 1
 abbrev pub header_bytes : NalUnit → List ℕ
 header_bytes unit =
     (unit.nal_unit_type * 2 + unit.nuh_layer_id / 32) ∷
@@ -61,7 +76,12 @@ unit_bytes unit = 0 ∷ 0 ∷ 0 ∷ 1 ∷ nal_bytes unit
 -- a unit of the base layer and the lowest sub-layer, with its start code
 abbrev pub unit_of_payload : ℕ → List ℕ → List ℕ
 unit_of_payload nal_unit_type payload =
-    unit_bytes (record { nal_unit_type = nal_unit_type; nuh_layer_id = 0; TemporalId = 0; payload = payload })
+    unit_bytes (record {
+      nal_unit_type = nal_unit_type;
+      nuh_layer_id = 0;
+      TemporalId = 0;
+      payload = payload;
+    })
 
 abbrev pub last_of : List ℕ → ℕ
 last_of [] = 0
@@ -75,8 +95,8 @@ pub record IsUnit (unit : NalUnit) : Type 0 where
   pub temporal : unit.TemporalId < 7
   pub ends : last_of unit.payload ≢ 0
 
--- The bytes are these units, each after any number of zero bytes and the start code prefix, with any number of zero
--- bytes at the end (B.2).
+-- The bytes are these units, each after any number of zero bytes and the start code prefix, with
+-- any number of zero bytes at the end (B.2).
 pub data IsByteStream : List ℕ → List NalUnit → Type 0 where
   end : (zeros : ℕ) → IsByteStream (replicate zeros 0) []
   more : (zeros : ℕ) (unit : NalUnit) {bytes : List ℕ} {units : List NalUnit} →
@@ -131,7 +151,8 @@ unit_then None units = None
 unit_then (Some unit) None = None
 unit_then (Some unit) (Some units) = Some (unit ∷ units)
 
--- The bytes behind zero bytes begin with a start code prefix: two zero bytes at least, and then a byte 1.
+-- The bytes behind zero bytes begin with a start code prefix: two zero bytes at least, and then a
+-- byte 1.
 abbrev pub is_start_code : ℕ → List ℕ → Bool
 is_start_code zero_bytes rest = nat_lt 1 zero_bytes && starts_with nat_eq rest (1 ∷ [])
 

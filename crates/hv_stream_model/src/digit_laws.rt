@@ -3,7 +3,7 @@
 ghost use Rattle.hv_stream_model.specs.DigitLaws.{CountOfDigits, DigitsAreSplit, HighPartIsUnseen, RemainderIsEnough, PairsAreJoined, DigitsOfZero, HighestDigit, NumberOfDigits, NumberIsSplit, NumberIsBounded, DigitsOfNumber, BitsAreJoined, EightABytes, BytesGiveBits, BitsBehindBytes, BitsOfNumber, FrontOfBits, RestOfBits, JoinedBytes, BytesOfNumber};
 
 /// The binary digits of a number: how many there are, and which parts of the number they show.
-pub fn digits_law()
+pub fn digits_laws()
     ensures count { CountOfDigits }
     ensures split { DigitsAreSplit }
     ensures low { HighPartIsUnseen }
@@ -14,7 +14,7 @@ pub fn digits_law()
 {}
 
 /// The number that binary digits make, and the digits of that number.
-pub fn numbers_law()
+pub fn numbers_laws()
     ensures digits { NumberOfDigits }
     ensures split { NumberIsSplit }
     ensures bound { NumberIsBounded }
@@ -22,7 +22,7 @@ pub fn numbers_law()
 {}
 
 /// The bits of bytes, eight for each.
-pub fn bits_of_bytes_law()
+pub fn bits_of_bytes_laws()
     ensures joined { BitsAreJoined }
     ensures count { EightABytes }
     ensures bits { BytesGiveBits }
@@ -31,7 +31,7 @@ pub fn bits_of_bytes_law()
 {}
 
 /// Parts of bits are bits, and bytes joined are bytes.
-pub fn parts_law()
+pub fn parts_laws()
     ensures front { FrontOfBits }
     ensures rest { RestOfBits }
     ensures joined { JoinedBytes }

@@ -19,7 +19,7 @@ pub fn aligned_bytes_end()
 {}
 
 /// Exp-Golomb codes (9.2) and the padding to a byte (7.3.2.11), by their lengths; the last byte.
-pub fn codes_law()
+pub fn codes_laws()
     ensures exp_golomb { CodesOfLength }
     ensures zeros { ZerosAreCounted }
     ensures padding { PaddingOfLength }

@@ -11,9 +11,9 @@ mod stream_laws;
 mod unit_laws;
 
 pub use bit_laws::{bits_come_back, bits_come_back_filled, bytes_append, bytes_come_back};
-pub use digit_laws::{bits_of_bytes_law, digits_law, numbers_law, parts_law};
+pub use digit_laws::{bits_of_bytes_laws, digits_laws, numbers_laws, parts_laws};
 pub use field_laws::{
-    aligned_bits_are_whole, aligned_bytes_end, codes_law, fields_are_read_back,
+    aligned_bits_are_whole, aligned_bytes_end, codes_laws, fields_are_read_back,
     joined_fields_have_joined_bits,
 };
 pub use header_laws::{
@@ -24,4 +24,6 @@ pub use header_laws::{
     video_parameters_are_read,
 };
 pub use stream_laws::{found_units_make_the_stream, streams_have_one_list};
-pub use unit_laws::{payloads_come_back, streams_are_read_back, units_make_a_stream};
+pub use unit_laws::{
+    payloads_come_back, streams_are_read_back, units_make_a_stream, zero_runs_laws,
+};

@@ -1,5 +1,6 @@
-use Rattle.std.proofs.Common.{◌≡◌, ◌∙◌, arith, sym, get_or}
-use Rattle.hv_stream_model.specs.Units.{run_after}
+use Rattle.std.proofs.Common.{◌≡◌, ◌∙◌, ◌++◌, arith, sym, ap₂, append-nil, get_or}
+use Rattle.hv_stream_model.specs.ZeroRuns.{run_after}
+use Rattle.hv_stream_model.proofs.UnitLemmas.{escape-runs}
 use Rattle.hv_bits.proofs.EscapingLemmas.{run_zero, run_other, run_after-le, short_run, large_byte, escape_kept, escape_put, escape_three_kept}
 use Rattle.hv_bits.proofs.unit.put_escaped.Goals as goal
 use Rattle.hv_bits.proofs.unit.put_escaped.Goals.{then-zeros-gt1+then-payload-at-le-LARGEST_ESCAPED+in_ok-extend_from_slice+in_ok-push, else-zeros-gt1, else-zeros-gt1-via-then-zeros-gt1+else-payload-at-le-LARGEST_ESCAPED, else-zeros-gt1-via-else-zeros-gt1, then-payload-at-eq0, else-payload-at-eq0}
@@ -58,3 +59,9 @@ loop-at-preserved c =
                 c.loop-at-2.invariant.4,
           )
     ])
+
+pub loop-at-init : goal.loop-at-init
+loop-at-init c =
+    let same = ap₂ (λ out rest. out ++ rest) (append-nil c.args.bytes.now.items)
+    (sym (escape-runs c.args.payload.now)) in
+    (omega arith, omega arith, omega arith, same)

@@ -1,5 +1,6 @@
 use Rattle.std.proofs.Common.{◌≡◌, ◌-◌, ◌<◌, ◌≤◌, ◌++◌, drop, length, take}
-use Rattle.hv_stream_model.specs.Units.{escape, escape_after}
+use Rattle.hv_stream_model.specs.Units.{escape}
+use Rattle.hv_stream_model.specs.ZeroRuns.{escape_after}
 use Rattle.hv_bits.proofs.unit.put_escaped.Given as goal
 
 abbrev pub invariant-loop-at : goal.invariant-loop-at

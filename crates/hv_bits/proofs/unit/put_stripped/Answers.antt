@@ -1,5 +1,6 @@
-use Rattle.std.proofs.Common.{◌≡◌, arith, sym, get_or, false}
-use Rattle.hv_stream_model.specs.Units.{is_emulation_byte}
+use Rattle.std.proofs.Common.{◌≡◌, ◌++◌, arith, sym, ap₂, append-nil, get_or, false}
+use Rattle.hv_stream_model.specs.ZeroRuns.{is_emulation_byte}
+use Rattle.hv_stream_model.proofs.UnitLemmas.{strip-runs}
 use Rattle.hv_bits.proofs.EscapingLemmas.{run_zero, run_other, short_run, other_byte, strip_kept, strip_left, strip_three_kept}
 use Rattle.hv_bits.proofs.unit.put_stripped.Goals as goal
 use Rattle.hv_bits.proofs.unit.put_stripped.Goals.{then-run-gt1+then-escaped-at-eq-THREE_BYTE+in_ok-extend_from_slice, else-run-gt1+then-escaped-at-eq0, else-run-gt1-via-then-run-gt1+else-escaped-at-eq-THREE_BYTE, else-run-gt1-via-else-run-gt1, else-run-gt1+else-escaped-at-eq0}
@@ -57,3 +58,9 @@ loop-at-preserved c =
                 _ w.if-escaped-at-eq0.false)) c.loop-at-2.invariant.4,
           )
     ]
+
+pub loop-at-init : goal.loop-at-init
+loop-at-init c =
+    let same = ap₂ (λ out rest. out ++ rest) (append-nil c.args.bytes.now.items)
+    (sym (strip-runs c.args.escaped.now)) in
+    (omega arith, omega arith, omega arith, same)

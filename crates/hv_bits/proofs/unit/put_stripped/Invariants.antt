@@ -1,5 +1,6 @@
 use Rattle.std.proofs.Common.{◌≡◌, ◌-◌, ◌<◌, ◌≤◌, ◌++◌, drop, length, take}
-use Rattle.hv_stream_model.specs.Units.{strip, strip_after}
+use Rattle.hv_stream_model.specs.Units.{strip}
+use Rattle.hv_stream_model.specs.ZeroRuns.{strip_after}
 use Rattle.hv_bits.proofs.unit.put_stripped.Given as goal
 
 abbrev pub invariant-loop-at : goal.invariant-loop-at

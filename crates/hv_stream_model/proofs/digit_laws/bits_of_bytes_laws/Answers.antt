@@ -1,5 +1,5 @@
 use Rattle.hv_stream_model.proofs.BitLemmas.{bits_of-append, length-bits_of, AreBits-bits_of, drop-bits_of, bits_of-bytes_high_first}
-use Rattle.hv_stream_model.proofs.digit_laws.bits_of_bytes_law.Goals as goal
+use Rattle.hv_stream_model.proofs.digit_laws.bits_of_bytes_laws.Goals as goal
 
 pub returns-clause-joined : goal.returns-clause-joined
 returns-clause-joined c = bits_of-append

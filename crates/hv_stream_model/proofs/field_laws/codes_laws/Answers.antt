@@ -1,5 +1,5 @@
 use Rattle.hv_stream_model.proofs.FieldLemmas.{exp_golomb-eq, leading_zeros-code, padding_of-eq, last_of-append}
-use Rattle.hv_stream_model.proofs.field_laws.codes_law.Goals as goal
+use Rattle.hv_stream_model.proofs.field_laws.codes_laws.Goals as goal
 
 pub returns-clause-exp_golomb : goal.returns-clause-exp_golomb
 returns-clause-exp_golomb c = exp_golomb-eq

@@ -1,5 +1,5 @@
 use Rattle.hv_stream_model.proofs.BitLemmas.{AreBits-take, AreBits-drop, AreBytes-append, AreBytes-bytes_high_first}
-use Rattle.hv_stream_model.proofs.digit_laws.parts_law.Goals as goal
+use Rattle.hv_stream_model.proofs.digit_laws.parts_laws.Goals as goal
 
 pub returns-clause-front : goal.returns-clause-front
 returns-clause-front c = AreBits-take

@@ -1,5 +1,5 @@
 use Rattle.hv_stream_model.proofs.BitLemmas.{number_of-digits, number_of-append, number_of_lt, digits-number_of}
-use Rattle.hv_stream_model.proofs.digit_laws.numbers_law.Goals as goal
+use Rattle.hv_stream_model.proofs.digit_laws.numbers_laws.Goals as goal
 
 pub returns-clause-digits : goal.returns-clause-digits
 returns-clause-digits c = number_of-digits

@@ -1,7 +1,7 @@
 use Rattle.hv_stream_model.proofs.DigitLemmas.{length-digits, digits-add, digits_low}
 use Rattle.hv_stream_model.proofs.BitLemmas.{digits-mod, digits-pair}
 use Rattle.hv_stream_model.proofs.FieldLemmas.{digits-zero, top_digit}
-use Rattle.hv_stream_model.proofs.digit_laws.digits_law.Goals as goal
+use Rattle.hv_stream_model.proofs.digit_laws.digits_laws.Goals as goal
 
 pub returns-clause-count : goal.returns-clause-count
 returns-clause-count c = length-digits

@@ -6,7 +6,8 @@ use mathlib.Core.Bool.{beq}
 use Rattle.hv_types.specs.declared.bins.SliceKind.{SliceKind}
 use Rattle.hv_types.specs.declared.bins.Ctx.{Ctx}
 use Rattle.hv_types.specs.Bins.{Question, Context, Terminate, Bin}
-use Rattle.hv_entropy_model.specs.Contexts.{ContextVariable, place_of, variable_at, with_variable, lps_width, next_variable, first_variables}
+use Rattle.hv_entropy_model.specs.Contexts.{ContextVariable, variable_at, with_variable, lps_width, next_variable, first_variables}
+use Rattle.hv_tables.specs.ContextTables.{place_of}
 use Rattle.hv_lemmas.specs.Booleans.{same}
 use Rattle.hv_entropy_model.specs.CodeWord.{Cut, cut, cut_at, next_variables, is_last, Interval, first_interval, cut_to, advance, reach, IsSound, IsEnded}
 use Rattle.hv_entropy_model.specs.IntervalLaws.{IsWithin}

@@ -10,9 +10,9 @@ use lib.Signed.{shr_z}
 use mir.Val.{to_z, of_z}
 use mir.Syntax.{w32}
 use Rattle.hv_types.specs.declared.bins.SliceKind.{SliceKind}
-use Rattle.hv_types.specs.declared.bins.SliceKind.TheVariants.{I, P}
+use Rattle.hv_tables.specs.ContextTables.{values_of_kind}
 use Rattle.hv_entropy_model.specs.Contexts.{ContextVariable, first_variable, first_variables}
-use Rattle.hv_cabac.specs.Variables.{variable_of, values_of_kind}
+use Rattle.hv_cabac.specs.Variables.{variable_of}
 
 -- ---- signed numbers
 -- a small number passes as it is
@@ -51,11 +51,6 @@ start_is s q o k hs ho e hk =
     rw (fs, fq, fo, fm, fh, ft) (ap (λ (x : ℤ). shr_z (s *ℤ x) 16 +ℤ o) e)
 
 -- ---- all variables
-pub length-values_of_kind : (kind : SliceKind) → length (values_of_kind kind) ≡ 140
-unfolding values_of_kind
-length-values_of_kind I = refl
-length-values_of_kind P = refl
-
 -- one more variable has its start
 pub first_more : (states values : List ℕ) (i state : ℕ) (f : ℕ → ContextVariable) →
     i < length states → i < length values →

@@ -7,8 +7,8 @@ ghost use Rattle.hv_stream_model.specs.Bits.{bytes_of};
 ghost use Rattle.hv_entropy_model.specs.CodeWord.{IsEnded, word};
 
 use crate::register::Register;
-use crate::tables::{lps, next_state, place};
-use crate::variables::Variables;
+use crate::variables::{Variables, lps_width, state_after};
+use hv_tables::context_place;
 use hv_types::{BinSink, Ctx, NoMemory, SliceKind};
 use std::alloc::Global;
 
@@ -57,11 +57,11 @@ impl BinSink for Encoder {
 
     #[inline(always)]
     fn bin(&mut self, context: Ctx, value: bool) {
-        let place = place(context);
+        let place = context_place(context);
         let state = self.variables.state(place);
-        let lps = lps(state, self.register.range());
+        let lps = lps_width(state, self.register.range());
         self.register.split(lps, value == (state % 2 == 1));
-        self.variables.set(place, next_state(state, value));
+        self.variables.set(place, state_after(state, value));
     }
 
     #[inline(always)]

@@ -12,12 +12,12 @@ returns c = λ kind qp before stood.
     let old = c.args.self.now.register in
     let variables = variables_of c.args.self.now.variables in
     let context = c.args.context in
-    let place = c.place-place.ensures in
+    let place = c.context_place-place.ensures in
     let x : ContextVariable = variable_of c.state-state.result in
     let at : x ≡ variable_at variables context =
     c.state-state.ensures ∙ ap (λ (i : ℕ). slice_index_or variables i no_variable) place in
-    let lps : c.lps-lps.result ≡ lps_width x old.range =
-    c.lps-lps.ensures.value ∙ ap (λ (r : ℕ). lps_width x r) c.range.ensures.same in
+    let lps : c.lps_width-lps.result ≡ lps_width x old.range =
+    c.lps_width-lps.ensures.value ∙ ap (λ (r : ℕ). lps_width x r) c.range.ensures.same in
     let part = same_test c.args.value x.valMps in
     record {
       stands =
@@ -25,5 +25,5 @@ returns c = λ kind qp before stood.
           refl stood.stands
           (λ fine. context_kept old _ variables context x _ _ _ (c.split.ensures fine) at lps part)
           (adapted variables _ context x _ _ c.args.value place at c.set.ensures
-          c.next_state.ensures);
+          c.state_after.ensures);
     }

@@ -1,5 +1,5 @@
 use Rattle.hv_entropy_model.proofs.IntervalLemmas.{shift_fits, cut_within}
-use Rattle.hv_entropy_model.proofs.interval_laws.interval_law.Goals as goal
+use Rattle.hv_entropy_model.proofs.interval.interval_laws.Goals as goal
 
 pub returns-clause-doubled : goal.returns-clause-doubled
 returns-clause-doubled c = shift_fits

@@ -46,7 +46,7 @@ impl Encoder {
             register,
             variables: _,
         } = self;
-        register.finish()
+        register.flush()
     }
 }
 
@@ -60,20 +60,17 @@ impl BinSink for Encoder {
         let place = context_place(context);
         let state = self.variables.state(place);
         let lps = lps_width(state, self.register.range());
-        self.register.split(lps, value == (state % 2 == 1));
+        self.register.encode_decision(lps, value == (state % 2 == 1));
         self.variables.set(place, state_after(state, value));
     }
 
     #[inline(always)]
     fn bypass(&mut self, value: bool) {
-        self.register.halve(value);
+        self.register.encode_bypass(value);
     }
 
-    /// The bin that ends the slice leaves the interval as it is: `finish` puts the last digits.
     #[inline(always)]
     fn terminate(&mut self, value: bool) {
-        if !value {
-            self.register.keep(0, self.register.range() - 2);
-        }
+        self.register.encode_terminate(value);
     }
 }

@@ -1,6 +1,6 @@
 use Rattle.std.proofs.Common.{◌-◌, arith, length-set, ◌∙◌}
 use Rattle.hv_cabac.proofs.NumberLemmas.{carry_on, carry_ends}
-use Rattle.hv_cabac.proofs.register.carry.Goals as goal
+use Rattle.hv_cabac.proofs.register.add_carry.Goals as goal
 
 pub loop-at-preserved : goal.loop-at-preserved
 loop-at-preserved c =

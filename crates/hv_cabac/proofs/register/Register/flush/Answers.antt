@@ -1,6 +1,6 @@
 use Rattle.std.proofs.Common.{arith}
 use Rattle.hv_cabac.proofs.WordLemmas.{word_bytes}
-use Rattle.hv_cabac.proofs.register.Register.finish.Goals as goal
+use Rattle.hv_cabac.proofs.register.Register.flush.Goals as goal
 
 pub returns : goal.returns
 returns c = λ i held.

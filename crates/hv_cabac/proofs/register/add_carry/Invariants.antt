@@ -1,6 +1,6 @@
 use Rattle.std.proofs.Common.{◌≡◌, ◌+◌, ◌-◌, ◌^◌, ◌≤◌, length}
 use Rattle.hv_cabac.specs.Bytes.{number}
-use Rattle.hv_cabac.proofs.register.carry.Given as goal
+use Rattle.hv_cabac.proofs.register.add_carry.Given as goal
 
 -- the one is still to be added at the place before `at`
 abbrev pub invariant-loop-at : goal.invariant-loop-at

@@ -52,9 +52,9 @@ pub below_25 : (k : ℕ) → k ≤ 25 → 2 ^ k ≤ 33554432
 below_25 k h = pow_mono {i = k} {j = 25} h
 
 -- the part of the interval that is kept stays as far to the left
-pub grown : (low range bits skip w s : ℕ) → 2 * (low + range) ≤ 3 * 2 ^ bits → skip + w ≤ range →
+pub low_grows : (low range bits skip w s : ℕ) → 2 * (low + range) ≤ 3 * 2 ^ bits → skip + w ≤ range →
     2 * ((low + skip) * 2 ^ s + w * 2 ^ s) ≤ 3 * 2 ^ (bits + s)
-grown low range bits skip w s h k =
+low_grows low range bits skip w s h k =
     let le : 2 * (low + skip + w) ≤ 3 * 2 ^ bits = omega arith in
     let m = mul-le-mul_right (2 ^ s) le in
     omega (arith, m, pow-add 2 bits s)
@@ -88,16 +88,16 @@ pub room_of : (xs : List ℕ) (bits n : ℕ) → places_of xs bits ≡ n + 9 →
     256 ^ length xs * 2 ^ bits ≡ 2 ^ n * 512
 room_of xs bits n e = room_at xs bits ∙ ap (λ (x : ℕ). 2 ^ x) e ∙ pow-add 2 n 9
 
-pub total_grown : (xs : List ℕ) (bits low skip s : ℕ) →
+pub total_grows : (xs : List ℕ) (bits low skip s : ℕ) →
     total xs (bits + s) ((low + skip) * 2 ^ s) ≡ (total xs bits low + skip) * 2 ^ s
-total_grown xs bits low skip s = rw (pow-add 2 bits s) (omega arith)
+total_grows xs bits low skip s = rw (pow-add 2 bits s) (omega arith)
 
 -- while the interval lies in the whole one
 pub room : (xs : List ℕ) (bits low range skip w s n : ℕ) → places_of xs bits ≡ n + 9 →
     total xs bits low + range ≤ 510 * 2 ^ n → skip + w ≤ range → 0 < w →
     HasRoom xs (bits + s) ((low + skip) * 2 ^ s)
 room xs bits low range skip w s n e h k p =
-    let t = total_grown xs bits low skip s in
+    let t = total_grows xs bits low skip s in
     let a : total xs bits low + skip < 510 * 2 ^ n = omega arith in
     let b = room_of xs bits n e in
     let d : total xs bits low + skip + 1 ≤ 256 ^ length xs * 2 ^ bits = omega (arith, a, b) in

@@ -3,22 +3,22 @@ use Rattle.std.proofs.Common.{◌≡◌, ℕ, ◌+◌, ◌*◌, ◌^◌, ◌<◌
 use Rattle.hv_types.specs.Bins.{Bypass}
 use Rattle.hv_entropy_model.specs.CodeWord.{part, cut, shift_of}
 use Rattle.hv_cabac.specs.Bytes.{total, HasRoom}
-use Rattle.hv_cabac.specs.Registers.{Kept, Settled}
+use Rattle.hv_cabac.specs.Registers.{Cuts, PutsBits}
 use Rattle.hv_cabac.specs.declared.register.Register.{Register}
-use Rattle.hv_cabac.proofs.BoundLemmas.{room, room_of, total_grown}
+use Rattle.hv_cabac.proofs.BoundLemmas.{room, room_of, total_grows}
 
 -- a part that was doubled
-pub settled_part : (old new : Register) (skip width s l w : ℕ) →
-    Settled old new l w (old.bits + s) → w ≡ width * 2 ^ s → s ≡ shift_of width →
+pub part_is_cut : (old new : Register) (skip width s l w : ℕ) →
+    PutsBits old new l w (old.bits + s) → w ≡ width * 2 ^ s → s ≡ shift_of width →
     l ≡ (old.low + skip) * 2 ^ s →
-    skip + width ≤ old.range → 0 < width → Kept old new (part skip width)
-settled_part old new skip width s l w h g e f k p = record {
+    skip + width ≤ old.range → 0 < width → Cuts old new (part skip width)
+part_is_cut old new skip width s l w h g e f k p = record {
   held = h.held;
   range = h.range ∙ g ∙ ap (λ (x : ℕ). width * 2 ^ x) e;
   places = omega (arith, h.places, e);
   low = λ n d r.
       let fits = room old.out.items old.bits old.low old.range skip width s n d r k p in
-      let t = total_grown old.out.items old.bits old.low skip s in
+      let t = total_grows old.out.items old.bits old.low skip s in
       rw (← e) (h.low (rw f fits) ∙ rw f (t ∙ omega arith));
 }
 
@@ -27,10 +27,10 @@ doubled_total : (xs : List ℕ) (bits low skip : ℕ) →
 doubled_total xs bits low skip = rw (pow-add 2 bits 1) (omega arith)
 
 -- the doubled interval, and one of its halves left out
-pub settled_half : (old new : Register) (v : Bool) (skip l : ℕ) →
-    Settled old new l old.range (old.bits + 1) → l ≡ old.low * 2 + skip →
-    skip ≡ cond v old.range 0 → skip ≤ old.range → Kept old new (cut [] old.range Bypass v)
-settled_half old new v skip l h g e k = record {
+pub half_is_cut : (old new : Register) (v : Bool) (skip l : ℕ) →
+    PutsBits old new l old.range (old.bits + 1) → l ≡ old.low * 2 + skip →
+    skip ≡ cond v old.range 0 → skip ≤ old.range → Cuts old new (cut [] old.range Bypass v)
+half_is_cut old new v skip l h g e k = record {
   held = h.held;
   range = h.range;
   places = omega (arith, h.places);

@@ -1,7 +1,6 @@
 pub mod NumberLemmas
 pub mod BoundLemmas
 pub mod CutLemmas
-pub mod NextStateLemmas
 pub mod StateLemmas
 pub mod StartLemmas
 pub mod StandingLemmas

@@ -65,11 +65,11 @@ lead_room xs low bits h k =
     lt_of_mul-lt-mul_right (2 ^ (bits - 8) * 256) (omega (arith, rw p at k, s, m))
 
 -- the carry added to the bytes and the eight digits put at their end: the total is as before
-pub moved : (xs ys zs : List ℕ) (low bits : ℕ) → 8 ≤ bits →
+pub carry_moves : (xs ys zs : List ℕ) (low bits : ℕ) → 8 ≤ bits →
     number ys ≡ number xs + low / 2 ^ (bits - 8) / 256 →
     zs ≡ ys ++ (low / 2 ^ (bits - 8) % 256) ∷ [] →
     total zs (bits - 8) (low % 2 ^ (bits - 8)) ≡ total xs bits low
-moved xs ys zs low bits h e f =
+carry_moves xs ys zs low bits h e f =
     let p = power bits h in
     let s = shr_split low (bits - 8) in
     let l : ℕ = low / 2 ^ (bits - 8) in

@@ -1,17 +1,18 @@
 -- What stood for some bins of a slice stands for one more.
-use Rattle.std.proofs.Common.{◌≡◌, ℕ, ◌*◌, ◌^◌, Bool, true, false, cond, List, [], ◌∷◌, ◌++◌, refl, sym, ap, ap₂, ◌∙◌, subst, arith, pow-add, mul-le-mul_right}
+use Rattle.std.proofs.Common.{◌≡◌, ℕ, ◌-◌, ◌*◌, ◌^◌, Bool, true, false, cond, List, [], ◌∷◌, ◌++◌, refl, sym, ap, ap₂, ◌∙◌, subst, arith, pow-add, mul-le-mul_right}
 use Rattle.std.specs.Prelude.{slice_set}
 use Rattle.std.proofs.lemmas.Bool.{cond-true}
 use mathlib.Core.Bool.{beq}
 use Rattle.hv_types.specs.declared.bins.SliceKind.{SliceKind}
 use Rattle.hv_types.specs.declared.bins.Ctx.{Ctx}
 use Rattle.hv_types.specs.Bins.{Question, Context, Terminate, Bin}
-use Rattle.hv_entropy_model.specs.Contexts.{ContextVariable, place_of, variable_at, with_variable, lps_width, next_variable, first_variables}
+use Rattle.hv_entropy_model.specs.Contexts.{ContextVariable, variable_at, with_variable, lps_width, next_variable, first_variables}
+use Rattle.hv_tables.specs.ContextTables.{place_of}
 use Rattle.hv_lemmas.specs.Booleans.{same}
-use Rattle.hv_entropy_model.specs.CodeWord.{Cut, cut, cut_at, next_variables, is_last, Interval, first_interval, cut_to, advance, reach, IsSound, IsEnded}
+use Rattle.hv_entropy_model.specs.CodeWord.{Cut, cut, cut_at, part, next_variables, is_last, Interval, first_interval, cut_to, advance, reach, IsSound}
 use Rattle.hv_entropy_model.specs.IntervalLaws.{IsWithin}
 use Rattle.hv_entropy_model.proofs.IntervalLemmas.{cut_within}
-use Rattle.hv_cabac.specs.Registers.{Holds, Kept}
+use Rattle.hv_cabac.specs.Registers.{Holds, Cuts}
 use Rattle.hv_cabac.specs.Encoding.{Stands, StandsFor}
 use Rattle.hv_cabac.specs.declared.register.Register.{Register}
 
@@ -39,20 +40,9 @@ goes_on (c ∷ bins) b i h =
     goes_on_case c bins b i h (λ k. goes_on bins b (advance i c) k) (is_last c.question c.value)
     refl
 
-sound_case : (b : Bin) (bins : List Bin) → IsEnded (b ∷ bins) → (IsEnded bins → IsSound bins) →
-    (t : Bool) → is_last b.question b.value ≡ t → IsSound (b ∷ bins)
-sound_case b bins e ih true h = rw h (rw h at e)
-sound_case b bins e ih false h = rw h (ih (rw h at e))
-
--- a list that ends the slice is sound
-pub ended_sound : (bins : List Bin) → IsEnded bins → IsSound bins
-ended_sound [] e = tt
-ended_sound (b ∷ bins) e =
-    sound_case b bins e (λ k. ended_sound bins k) (is_last b.question b.value) refl
-
 -- ---- one more bin in the register
 holds_more : (old new : Register) (i : Interval) (b : Bin) → is_last b.question b.value ≡ false →
-    Holds old i → Kept old new (cut i.variables old.range b.question b.value) →
+    Holds old i → Cuts old new (cut i.variables old.range b.question b.value) →
     Holds new (advance i b)
 holds_more old new i b last h k =
     let later : List ContextVariable = next_variables i.variables b.question b.value in
@@ -76,7 +66,7 @@ holds_more old new i b last h k =
 pub stands_more : (old new : Register) (before after : List ContextVariable) (kind : SliceKind)
     (qp : ℕ) (bins : List Bin) (q : Question) (v : Bool) → is_last q v ≡ false →
     StandsFor old before kind qp bins →
-    (new.failed ≡ false → Kept old new (cut before old.range q v)) →
+    (new.failed ≡ false → Cuts old new (cut before old.range q v)) →
     after ≡ next_variables before q v →
     StandsFor new after kind qp (bins ++ record { question = q; value = v } ∷ [])
 stands_more old new before after kind qp bins q v last stood kept adapted fine sound =
@@ -86,8 +76,8 @@ stands_more old new before after kind qp bins q v last stood kept adapted fine s
     let on = goes_on bins b first sound in
     let k = kept fine in
     let s = stood k.held on.sound in
-    let k_there : Kept old new (cut i.variables old.range q v) =
-    subst (λ (x : List ContextVariable). Kept old new (cut x old.range q v)) (sym s.adapted) k in
+    let k_there : Cuts old new (cut i.variables old.range q v) =
+    subst (λ (x : List ContextVariable). Cuts old new (cut x old.range q v)) (sym s.adapted) k in
     let there : Stands new after (advance i b) = record {
       interval = holds_more old new i b last s.interval k_there;
       adapted = ap (λ (x : List ContextVariable). next_variables x q v) s.adapted ∙ sym adapted;
@@ -107,27 +97,41 @@ stands_ended r variables kind qp bins v h stood fine sound =
     let e : reach first (bins ++ b ∷ []) ≡ i = on.reached ∙ cond-true v i (advance i b) h in
     subst (λ (x : Interval). Stands r variables x) (sym e) (stood fine on.sound)
 
--- ---- a bin with a context, from what the code computed
-pub context_kept : (old new : Register) (variables : List ContextVariable) (context : Ctx)
+-- ---- a bin before terminate, of either value
+pub stands_terminate : (old new : Register) (variables : List ContextVariable) (kind : SliceKind)
+    (qp : ℕ) (bins : List Bin) (v : Bool) → StandsFor old variables kind qp bins →
+    (v ≡ false → new.failed ≡ false → Cuts old new (part 0 (old.range - 2))) →
+    (v ≡ true → new ≡ old) →
+    StandsFor new variables kind qp (bins ++ record { question = Terminate; value = v } ∷ [])
+stands_terminate old new variables kind qp bins false stood goes_on ends =
+    stands_more old new variables variables kind qp bins Terminate false refl stood (goes_on refl)
+    refl
+stands_terminate old new variables kind qp bins true stood goes_on ends =
+    let b : Bin = record { question = Terminate; value = true } in
+    subst (λ (r : Register). StandsFor r variables kind qp (bins ++ b ∷ [])) (sym (ends refl))
+    (stands_ended old variables kind qp bins true refl stood)
+
+-- a bin with a context, from what the code computed
+pub context_cuts : (old new : Register) (variables : List ContextVariable) (context : Ctx)
     (x : ContextVariable) (lps : ℕ) (v probable : Bool) →
-    Kept old new (cut_at old.range lps probable) → x ≡ variable_at variables context →
+    Cuts old new (cut_at old.range lps probable) → x ≡ variable_at variables context →
     lps ≡ lps_width x old.range → probable ≡ same v x.valMps →
-    Kept old new (cut variables old.range (Context context) v)
-context_kept old new variables context x lps v probable k e f g =
+    Cuts old new (cut variables old.range (Context context) v)
+context_cuts old new variables context x lps v probable k e f g =
     let P : ContextVariable → Type 0 =
-    λ y. Kept old new (cut_at old.range (lps_width y old.range) (same v y.valMps)) in
-    let with_lps : Kept old new (cut_at old.range (lps_width x old.range) probable) =
-    subst (λ (l : ℕ). Kept old new (cut_at old.range l probable)) f k in
+    λ y. Cuts old new (cut_at old.range (lps_width y old.range) (same v y.valMps)) in
+    let with_lps : Cuts old new (cut_at old.range (lps_width x old.range) probable) =
+    subst (λ (l : ℕ). Cuts old new (cut_at old.range l probable)) f k in
     let with_part : P x =
-    subst (λ (p : Bool). Kept old new (cut_at old.range (lps_width x old.range) p)) g with_lps in
+    subst (λ (p : Bool). Cuts old new (cut_at old.range (lps_width x old.range) p)) g with_lps in
     subst P e with_part
 
 -- the variables, with the state that the code put
-pub adapted : (before after : List ContextVariable) (context : Ctx) (x y : ContextVariable)
+pub variables_adapt : (before after : List ContextVariable) (context : Ctx) (x y : ContextVariable)
     (place : ℕ) (v : Bool) → place ≡ place_of context → x ≡ variable_at before context →
     after ≡ slice_set before place y → y ≡ next_variable x v →
     after ≡ with_variable before context (next_variable (variable_at before context) v)
-adapted before after context x y place v e f g h =
+variables_adapt before after context x y place v e f g h =
     let next : y ≡ next_variable (variable_at before context) v =
     h ∙ ap (λ (z : ContextVariable). next_variable z v) f in
     g ∙ ap₂ (λ (i : ℕ) (z : ContextVariable). slice_set before i z) e next

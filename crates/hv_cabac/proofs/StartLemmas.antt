@@ -9,26 +9,16 @@ use Rattle.std.proofs.lemmas.List.{take_more, take_more_set, take_all, map-appen
 use lib.Signed.{shr_z}
 use mir.Val.{to_z, of_z}
 use mir.Syntax.{w32}
+use Rattle.hv_lemmas.proofs.SignedLemmas.{passed, passed_small, size_of_sum}
 use Rattle.hv_types.specs.declared.bins.SliceKind.{SliceKind}
-use Rattle.hv_types.specs.declared.bins.SliceKind.TheVariants.{I, P}
+use Rattle.hv_tables.specs.ContextTables.{values_of_kind}
 use Rattle.hv_entropy_model.specs.Contexts.{ContextVariable, first_variable, first_variables}
-use Rattle.hv_cabac.specs.Variables.{variable_of, values_of_kind}
+use Rattle.hv_cabac.specs.Variables.{variable_of}
 
 -- ---- signed numbers
--- a small number passes as it is
-abbrev passed : ℤ → ℤ
-passed z = to_z w32 (of_z w32 z)
-
-passed_small : (z : ℤ) → unsigned_abs z < 2147483648 → passed z ≡ z
-passed_small z h = to_z-of_z w32 z (fits_signed_from_abs w32 z h)
-
 shifted_small : (z : ℤ) → unsigned_abs (shr_z z 16) ≤ unsigned_abs z
 shifted_small (pos a) = omega arith
 shifted_small (negsuc a) = omega arith
-
-sum_small : (a b : ℤ) → unsigned_abs (a +ℤ b) ≤ unsigned_abs a + unsigned_abs b
-sum_small (pos a) (pos b) = omega arith
-sum_small a b = omega (arith, ints)
 
 -- a variable's start, from what the code computed
 pub start_is : (s q o : ℤ) (k : ℕ) → unsigned_abs s ≤ 45 → unsigned_abs o ≤ 104 → q ≡ pos k →
@@ -41,7 +31,7 @@ start_is s q o k hs ho e hk =
     unsigned_abs-mul s q ∙ ap (λ (x : ℤ). unsigned_abs s * unsigned_abs x) e in
     let b : unsigned_abs (s *ℤ q) ≤ 11475 = rw m (mul-le-mul hs few) in
     let h = shifted_small (s *ℤ q) in
-    let t = sum_small (shr_z (s *ℤ q) 16) o in
+    let t = size_of_sum (shr_z (s *ℤ q) 16) o in
     let fs = passed_small s (omega arith) in
     let fq : passed q ≡ q = passed_small q (rw e (omega arith)) in
     let fo = passed_small o (omega arith) in
@@ -51,11 +41,6 @@ start_is s q o k hs ho e hk =
     rw (fs, fq, fo, fm, fh, ft) (ap (λ (x : ℤ). shr_z (s *ℤ x) 16 +ℤ o) e)
 
 -- ---- all variables
-pub length-values_of_kind : (kind : SliceKind) → length (values_of_kind kind) ≡ 140
-unfolding values_of_kind
-length-values_of_kind I = refl
-length-values_of_kind P = refl
-
 -- one more variable has its start
 pub first_more : (states values : List ℕ) (i state : ℕ) (f : ℕ → ContextVariable) →
     i < length states → i < length values →

@@ -1,27 +1,11 @@
--- The states of context variables, and the table of the states after a bin.
+-- Context variables as states of one number each, and the state after a bin (9.3.4.3.2.2), for
+-- state_after.
 use Rattle.std.proofs.Common.{◌≡◌, ℕ, zero, suc, ◌+◌, ◌*◌, ◌/◌, ◌%◌, ◌<◌, ◌≤◌, Bool, true, false, cond, ◌&&◌, eqb, get_or, refl, ap, ◌∙◌, arith, eqb-true, inl, inr}
-use Rattle.std.proofs.lemmas.Bool.{and_parts, cases_lt}
-use Rattle.std.specs.Prelude.{◌⊎◌}
+use Rattle.std.proofs.lemmas.Bool.{and_parts}
+use Rattle.hv_lemmas.proofs.ComputedLemmas.{all_below, holds_below}
+use Rattle.hv_tables.specs.ArithmeticTables.{state_after}
 use Rattle.hv_entropy_model.specs.Contexts.{ContextVariable, next_variable}
 use Rattle.hv_cabac.specs.Variables.{variable_of}
-use Rattle.hv_cabac.proofs.NextStateLemmas.{next_states}
-
--- ---- a test that holds of each number below a bound
-unfoldable all_below : (ℕ → Bool) → ℕ → Bool
-all_below p zero = true
-all_below p (suc n) = p n && all_below p n
-
-all_below_case : (p : ℕ → Bool) (n i : ℕ) → (p n ≡ true) × (all_below p n ≡ true) →
-    (all_below p n ≡ true → i < n → p i ≡ true) → i < suc n → (i < n) ⊎ (n ≤ i) → p i ≡ true
-all_below_case p n i h ih k (inl q) = ih h.1 q
-all_below_case p n i h ih k (inr q) = let e : i ≡ n = omega arith in rw e h.0
-
-all_below_at : (p : ℕ → Bool) (n i : ℕ) → all_below p n ≡ true → i < n → p i ≡ true
-unfolding all_below
-all_below_at p zero i h k = absurd (omega arith)
-all_below_at p (suc n) i h k =
-    let parts = and_parts (p n) (all_below p n) h in
-    all_below_case p n i parts (λ h k. all_below_at p n i h k) k (cases_lt i n)
 
 -- ---- a variable as a state
 state_of : ContextVariable → ℕ
@@ -42,30 +26,26 @@ variable_of-state_of v = go v.pStateIdx v.valMps
         let f : (p * 2 + 0) % 2 ≡ 0 = omega arith in
         rw (e, f) refl
 
--- ---- the table
--- its entry is the state of the next variable
-entry_agrees : ℕ → Bool → Bool
-entry_agrees state value =
-    eqb (get_or next_states (state * 2 + cond value 1 0) 0)
-    (state_of (next_variable (variable_of state) value))
+-- ---- the state after a bin is that of the variable after it
+agrees_after : ℕ → Bool → Bool
+agrees_after state value =
+    eqb (state_after state value) (state_of (next_variable (variable_of state) value))
 
 agrees : ℕ → Bool
-agrees state = entry_agrees state false && entry_agrees state true
+agrees state = agrees_after state false && agrees_after state true
 
-all_agree : all_below agrees 128 ≡ true
-unfolding all_below agrees entry_agrees state_of next_variable
+all_agree : all_below 128 agrees ≡ true
+unfolding agrees agrees_after state_of next_variable
 all_agree = refl
 
-entry : (state : ℕ) (value : Bool) → state < 128 → entry_agrees state value ≡ true
+agrees_at : (state : ℕ) (value : Bool) → state < 128 → agrees_after state value ≡ true
 unfolding agrees
-entry state value h =
-    let both = all_below_at agrees 128 state all_agree h in
-    go value (and_parts (entry_agrees state false) (entry_agrees state true) both)
-  where
-    go : (v : Bool) → (entry_agrees state false ≡ true) × (entry_agrees state true ≡ true) →
-        entry_agrees state v ≡ true
-    go false p = p.0
-    go true p = p.1
+agrees_at state false h =
+    (and_parts (agrees_after state false) (agrees_after state true)
+    (holds_below 128 agrees all_agree state h)).0
+agrees_at state true h =
+    (and_parts (agrees_after state false) (agrees_after state true)
+    (holds_below 128 agrees all_agree state h)).1
 
 -- a state's lowest seven digits decide
 low_digits : (state : ℕ) (value : Bool) →
@@ -77,10 +57,9 @@ low_digits state value =
     rw (e, f) refl
 
 pub next_at : (state : ℕ) (value : Bool) →
-    variable_of (get_or next_states (state % 128 * 2 + cond value 1 0) 0) ≡
-    next_variable (variable_of state) value
-unfolding entry_agrees
+    variable_of (state_after (state % 128) value) ≡ next_variable (variable_of state) value
+unfolding agrees_after
 next_at state value =
-    let e = eqb-true _ _ (entry (state % 128) value (omega arith)) in
+    let e = eqb-true _ _ (agrees_at (state % 128) value (omega arith)) in
     ap variable_of e ∙ variable_of-state_of (next_variable (variable_of (state % 128)) value) ∙
     low_digits state value

@@ -5,49 +5,20 @@ use Rattle.std.proofs.lemmas.Nat.{shl-shr, shr_high, mod-pow-add}
 use Rattle.std.proofs.lemmas.List.{drop-append-le, length-replicate, replicate-append-replicate}
 use Rattle.hv_stream_model.specs.Bits.{digits, number_of, bits_of, first_bytes, bytes_of}
 use Rattle.hv_entropy_model.specs.CodeWord.{Interval, odd_from, word_at}
-use Rattle.hv_stream_model.proofs.DigitLemmas.{digits-add, length-digits}
+use Rattle.hv_stream_model.proofs.BitLemmas.{number_of-digits, length-bits_of}
+use Rattle.hv_stream_model.proofs.DigitLemmas.{digits-add, digits_low, length-digits}
+use Rattle.hv_stream_model.proofs.FieldLemmas.{digits-zero}
 use Rattle.hv_cabac.specs.Bytes.{number, total, places_of, HasRoom}
 use Rattle.hv_cabac.specs.Registers.{Holds, total_of}
 use Rattle.hv_cabac.specs.declared.register.Register.{Register}
 use Rattle.hv_cabac.proofs.BoundLemmas.{bytes_power, room_of}
 
 -- ---- digits
--- the last k places do not see what stands above them
-digit_low : (j a k b : ℕ) → j < k → (a * 2 ^ k + b) / 2 ^ j % 2 ≡ b / 2 ^ j % 2
-digit_low j a k b h =
-    let high : ℕ = a * 2 ^ (k - j - 1) * 2 in
-    let e : k ≡ (k - j - 1) + (1 + j) = omega arith in
-    let p : a * 2 ^ k ≡ high * 2 ^ j =
-    subst (λ (x : ℕ). a * 2 ^ x ≡ high * 2 ^ j) (sym e)
-    (rw (pow-add 2 (k - j - 1) (1 + j), pow-add 2 1 j) (omega arith)) in
-    let q : (high * 2 ^ j + b) / 2 ^ j ≡ high + b / 2 ^ j = mul-add-div_right (pow_pos j) high b in
-    rw p (rw q (omega arith))
-
-digits_low_from : (j a k b : ℕ) → j ≤ k → digits j (a * 2 ^ k + b) ≡ digits j b
-digits_low_from zero a k b h = refl
-digits_low_from (suc j) a k b h =
-    rw (digit_low j a k b h, digits_low_from j a k b (omega arith)) refl
-
-digits_low : (a k b : ℕ) → digits k (a * 2 ^ k + b) ≡ digits k b
-digits_low a k b = digits_low_from k a k b (omega arith)
-
-digits-zero : (k : ℕ) → digits k 0 ≡ replicate k 0
-digits-zero zero = refl
-digits-zero (suc k) =
-    let e : 0 / 2 ^ k ≡ 0 = div-eq_of_lt (pow_pos k) in rw (e, digits-zero k) refl
-
 digits_shifted : (m p v : ℕ) → digits (m + p) (v * 2 ^ p) ≡ digits m v ++ replicate p 0
 digits_shifted m p v =
     let z : digits p (v * 2 ^ p) ≡ replicate p 0 =
     ap (digits p) (omega arith) ∙ digits_low v p 0 ∙ digits-zero p in
     digits-add m p (v * 2 ^ p) ∙ rw (shl-shr v p, z) refl
-
-number_of-digits : (k v : ℕ) → number_of (digits k v) ≡ v % 2 ^ k
-number_of-digits zero v = omega arith
-number_of-digits (suc k) v =
-    let m : v % 2 ^ suc k ≡ (v / 2 ^ k % 2) * 2 ^ k + v % 2 ^ k =
-    rw (← one-add k) (mod-pow-add v 1 k) in
-    rw (length-digits k v, number_of-digits k v) (sym m)
 
 -- ---- the bits of bytes
 -- each element is a byte
@@ -78,11 +49,6 @@ bits_number (x ∷ xs) h =
     let q : v / 2 ^ k ≡ x = rw p (shr_high x k (number xs) b2) in
     let l : digits k v ≡ digits k (number xs) = rw p (digits_low x k (number xs)) in
     rw ih (sym (rw e (digits-add 8 k v ∙ rw (q, l) refl)))
-
-length-bits_of : (xs : List ℕ) → length (bits_of xs) ≡ 8 * length xs
-length-bits_of [] = refl
-length-bits_of (x ∷ xs) =
-    omega (arith, length-append (digits 8 x) (bits_of xs), length-digits 8 x, length-bits_of xs)
 
 -- ---- the bytes of bits
 -- eight digits, and what comes after them

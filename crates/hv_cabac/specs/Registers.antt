@@ -19,7 +19,7 @@ pub record Holds (r : Register) (i : Interval) : Type 0 where
   pub inside : i.low + i.range ≤ 510 * 2 ^ i.n
 
 -- what a bin's cut makes of a register
-pub record Kept (old new : Register) (c : Cut) : Type 0 where
+pub record Cuts (old new : Register) (c : Cut) : Type 0 where
   pub held : old.failed ≡ false
   pub range : new.range ≡ c.width
   pub places : digits_of new ≡ digits_of old + c.times
@@ -27,7 +27,7 @@ pub record Kept (old new : Register) (c : Cut) : Type 0 where
       total_of new ≡ total_of old * 2 ^ c.times + c.skip
 
 -- a register of k digits in place of the old one, its highest digits moved out where there are many
-pub record Settled (old new : Register) (l w k : ℕ) : Type 0 where
+pub record PutsBits (old new : Register) (l w k : ℕ) : Type 0 where
   pub held : old.failed ≡ false
   pub range : new.range ≡ w
   pub places : digits_of new ≡ places_of old.out.items k

@@ -1,16 +1,10 @@
 -- Context variables as states of one number each.
-use Rattle.std.specs.Prelude.{ℕ, ◌*◌, ◌/◌, ◌%◌, nat_eq, List, flat_map, ℤ, pos, ◌-ℤ◌}
-use Rattle.hv_types.specs.declared.bins.SliceKind.{SliceKind}
-use Rattle.hv_tables.specs.ContextTables.{tables, values_of}
+use Rattle.std.specs.Prelude.{ℕ, ◌*◌, ◌/◌, ◌%◌, nat_eq, ℤ, pos, ◌-ℤ◌}
 use Rattle.hv_entropy_model.specs.Contexts.{ContextVariable}
 
 -- a state is 2 * pStateIdx + valMps
 abbrev pub variable_of : ℕ → ContextVariable
 variable_of state = record { pStateIdx = state / 2; valMps = nat_eq (state % 2) 1 }
-
--- initValue of all context variables, in the order of their places
-unfoldable pub values_of_kind : SliceKind → List ℕ
-values_of_kind kind = flat_map (values_of kind) tables
 
 -- the line on which a variable starts: how steep it is, and where it stands at quantiser 0
 abbrev pub slope_of : ℕ → ℤ

@@ -7,8 +7,8 @@ ghost use Rattle.hv_stream_model.specs.Bits.{bytes_of};
 ghost use Rattle.hv_entropy_model.specs.CodeWord.{IsEnded, word};
 
 use crate::register::Register;
-use crate::tables::{lps, next_state, place};
-use crate::variables::Variables;
+use crate::variables::{Variables, lps_width, state_after};
+use hv_tables::context_place;
 use hv_types::{BinSink, Ctx, NoMemory, SliceKind};
 use std::alloc::Global;
 
@@ -46,7 +46,7 @@ impl Encoder {
             register,
             variables: _,
         } = self;
-        register.finish()
+        register.flush()
     }
 }
 
@@ -57,23 +57,20 @@ impl BinSink for Encoder {
 
     #[inline(always)]
     fn bin(&mut self, context: Ctx, value: bool) {
-        let place = place(context);
+        let place = context_place(context);
         let state = self.variables.state(place);
-        let lps = lps(state, self.register.range());
-        self.register.split(lps, value == (state % 2 == 1));
-        self.variables.set(place, next_state(state, value));
+        let lps = lps_width(state, self.register.range());
+        self.register.encode_decision(lps, value == (state % 2 == 1));
+        self.variables.set(place, state_after(state, value));
     }
 
     #[inline(always)]
     fn bypass(&mut self, value: bool) {
-        self.register.halve(value);
+        self.register.encode_bypass(value);
     }
 
-    /// The bin that ends the slice leaves the interval as it is: `finish` puts the last digits.
     #[inline(always)]
     fn terminate(&mut self, value: bool) {
-        if !value {
-            self.register.keep(0, self.register.range() - 2);
-        }
+        self.register.encode_terminate(value);
     }
 }

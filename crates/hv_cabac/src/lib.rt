@@ -5,7 +5,6 @@
 mod counter;
 mod encoder;
 mod register;
-mod tables;
 #[cfg(test)]
 mod tests;
 mod variables;

@@ -1,4 +1,7 @@
-//! The interval of the arithmetic encoder, in a register and the bytes that have left it.
+//! The interval of the arithmetic encoder, in a register and the bytes that have left it. The names
+//! are those of the encoding process that the standard gives for information (9.3.5): `ivlLow` is
+//! the number of the bytes and of the register's digits, and a carry goes back into the bytes, so
+//! that no bits are outstanding.
 
 ghost use Rattle.std.specs.Prelude.{◌≡◌, ◌+◌, ◌-◌, ◌*◌, ◌/◌, ◌%◌, ◌^◌, ◌<◌, ◌≤◌, [], List, cond, length, true, false, OnOk, IfOk, ℕ, slice_index_or};
 ghost use Rattle.hv_stream_model.specs.Bits.{bytes_of};
@@ -11,7 +14,7 @@ use hv_types::NoMemory;
 use std::alloc::Global;
 
 /// Adds one to the number that the bytes make.
-fn carry(out: &mut [u8])
+fn add_carry(out: &mut [u8])
     ensures more { number out.old + 1 < 256 ^ length out.old → number out.new ≡ number out.old + 1 }
     ensures length { length out.new ≡ length out.old }
 {
@@ -28,39 +31,39 @@ fn carry(out: &mut [u8])
 }
 
 /// Adds the carry that came into the eight digits of `lead`.
-fn bring(out: &mut Vec<u8>, lead: u64)
+fn put_carry(out: &mut Vec<u8>, lead: u64)
     requires small { lead < 512 }
     ensures more { number out.old.items + lead / 256 < 256 ^ length out.old.items →
         number out.new.items ≡ number out.old.items + lead / 256 }
     ensures length { length out.new.items ≡ length out.old.items }
 {
     if lead >= 256 {
-        carry(out);
+        add_carry(out);
     }
 }
 
 /// Moves the highest eight of the register's `bits` digits out, with the carry that came into them.
 /// Answers whether there was memory for it.
-fn put_out(out: &mut Vec<u8>, low: u64, bits: u32) -> bool
-    requires eight { 8 ≤ bits }
-    requires few { bits ≤ 32 }
+fn put_byte(out: &mut Vec<u8>, low: u64, bits: u32) -> bool
+    requires least { 8 ≤ bits }
+    requires most { bits ≤ 32 }
     requires small { 2 * low < 3 * 2 ^ bits }
     ensures length { result ≡ true → length out.new.items ≡ length out.old.items + 1 }
     ensures same { result ≡ true → HasRoom out.old.items bits low →
         total out.new.items (bits - 8) (low % 2 ^ (bits - 8)) ≡ total out.old.items bits low }
 {
     let lead = low >> (bits - 8);
-    bring(out, lead);
+    put_carry(out, lead);
     out.push((lead % 256) as u8).is_ok()
 }
 
 /// How often a width is doubled until it has 256 (9.3.4.3.3).
 #[inline(always)]
 fn doublings(width: u32) -> u32
-    requires some { 0 < width }
-    requires few { width ≤ 510 }
+    requires least { 0 < width }
+    requires most { width ≤ 510 }
     ensures shift { result ≡ shift_of width }
-    ensures few { result ≤ 8 }
+    ensures most { result ≤ 8 }
     ensures wide { 256 ≤ width * 2 ^ result }
     ensures narrow { width * 2 ^ result ≤ 510 }
 {
@@ -69,8 +72,8 @@ fn doublings(width: u32) -> u32
 
 /// A width doubled so often.
 #[inline(always)]
-fn doubled(width: u32, times: u32) -> u32
-    requires few { times ≤ 8 }
+fn new_range(width: u32, times: u32) -> u32
+    requires most { times ≤ 8 }
     requires narrow { width * 2 ^ times ≤ 510 }
     ensures { result ≡ width * 2 ^ times }
 {
@@ -79,8 +82,8 @@ fn doubled(width: u32, times: u32) -> u32
 
 /// The register after a bin that leaves out `skip` of the interval and keeps `width`, all doubled.
 #[inline(always)]
-fn raised(low: u64, range: u32, bits: u32, skip: u32, width: u32, times: u32) -> u64
-    requires few { bits + times ≤ 25 }
+fn new_low(low: u64, range: u32, bits: u32, skip: u32, width: u32, times: u32) -> u64
+    requires most { bits + times ≤ 25 }
     requires small { 2 * (low + range) ≤ 3 * 2 ^ bits }
     requires inside { skip + width ≤ range }
     ensures value { result ≡ (low + skip) * 2 ^ times }
@@ -92,8 +95,8 @@ fn raised(low: u64, range: u32, bits: u32, skip: u32, width: u32, times: u32) ->
 /// What is left of the register when its highest eight digits are out.
 #[inline(always)]
 fn rest_of(low: u64, range: u32, bits: u32) -> u64
-    requires many { 18 ≤ bits }
-    requires few { bits ≤ 25 }
+    requires least { 18 ≤ bits }
+    requires most { bits ≤ 25 }
     requires narrow { range ≤ 510 }
     ensures value { result ≡ low % 2 ^ (bits - 8) }
     ensures small { 2 * (result + range) ≤ 3 * 2 ^ (bits - 8) }
@@ -105,15 +108,15 @@ fn rest_of(low: u64, range: u32, bits: u32) -> u64
 #[inline(always)]
 fn skip_of(range: u32, value: bool) -> u32
     ensures value { result ≡ cond value range 0 }
-    ensures few { result ≤ range }
+    ensures most { result ≤ range }
 {
     if value { range } else { 0 }
 }
 
 /// The register after a bypass bin.
 #[inline(always)]
-fn halved(low: u64, range: u32, bits: u32, skip: u32) -> u64
-    requires few { bits ≤ 17 }
+fn bypass_low(low: u64, range: u32, bits: u32, skip: u32) -> u64
+    requires most { bits ≤ 17 }
     requires small { 2 * (low + range) ≤ 3 * 2 ^ bits }
     requires inside { skip ≤ range }
     ensures value { result ≡ low * 2 + skip }
@@ -126,8 +129,8 @@ fn halved(low: u64, range: u32, bits: u32, skip: u32) -> u64
 #[inline(always)]
 fn last_of(low: u64, range: u32, bits: u32, pad: u32) -> u64
     requires wide { 256 ≤ range }
-    requires few { bits ≤ 17 }
-    requires little { pad ≤ 7 }
+    requires most { bits ≤ 17 }
+    requires pad { pad ≤ 7 }
     requires small { 2 * (low + range) ≤ 3 * 2 ^ bits }
     ensures value { result ≡ odd_from (low + range - 2) * 2 ^ pad }
     ensures small { 2 * result < 3 * 2 ^ (bits + pad) }
@@ -138,8 +141,8 @@ fn last_of(low: u64, range: u32, bits: u32, pad: u32) -> u64
 
 /// The lowest digits of a register.
 #[inline(always)]
-fn lower(low: u64, bits: u32) -> u64
-    requires few { bits ≤ 24 }
+fn low_digits(low: u64, bits: u32) -> u64
+    requires most { bits ≤ 24 }
     ensures value { result ≡ low % 2 ^ bits }
     ensures small { result < 2 ^ bits }
 {
@@ -148,8 +151,8 @@ fn lower(low: u64, bits: u32) -> u64
 
 /// Moves all the register's digits out, which are whole bytes.
 fn put_rest(out: &mut Vec<u8>, low: u64, bits: u32) -> Result<(), NoMemory>
-    requires some { 8 ≤ bits }
-    requires few { bits ≤ 24 }
+    requires least { 8 ≤ bits }
+    requires most { bits ≤ 24 }
     requires whole { bits % 8 ≡ 0 }
     requires small { 2 * low < 3 * 2 ^ bits }
     ensures length { OnOk result (8 * length out.new.items ≡ 8 * length out.old.items + bits) }
@@ -158,17 +161,17 @@ fn put_rest(out: &mut Vec<u8>, low: u64, bits: u32) -> Result<(), NoMemory>
     ensures value { OnOk result (HasRoom out.old.items bits low →
         number out.new.items ≡ total out.old.items bits low) }
 {
-    if !put_out(out, low, bits) {
+    if !put_byte(out, low, bits) {
         return Err(NoMemory);
     }
     let mut left = bits - 8;
-    let mut rest = lower(low, left);
+    let mut rest = low_digits(low, left);
     while left > 0 {
-        if !put_out(out, rest, left) {
+        if !put_byte(out, rest, left) {
             return Err(NoMemory);
         }
         left -= 8;
-        rest = lower(rest, left);
+        rest = low_digits(rest, left);
     }
     Ok(())
 }
@@ -191,7 +194,7 @@ pub struct Register {
 }
 
 impl Register {
-    ghost use Rattle.hv_cabac.specs.Registers.{Holds, Kept, Settled};
+    ghost use Rattle.hv_cabac.specs.Registers.{Holds, Cuts, PutsBits};
 
     /// The whole interval (9.3.2.5).
     pub fn new(alloc: Global) -> Register
@@ -211,76 +214,90 @@ impl Register {
     /// The interval's width.
     #[inline(always)]
     pub fn range(&self) -> u32
-        ensures same { result ≡ self.now.range }
-        ensures wide { 256 ≤ result }
-        ensures narrow { result ≤ 510 }
+        ensures value { result ≡ self.now.range }
+        ensures least { 256 ≤ result }
+        ensures most { result ≤ 510 }
     {
         self.range
     }
 
     /// Puts a register of `bits` digits in place of the old one, and moves its highest digits out
-    /// where there are many.
+    /// where there are many (PutBit).
     #[inline(always)]
-    fn settle(&mut self, low: u64, range: u32, bits: u32)
+    fn put_bits(&mut self, low: u64, range: u32, bits: u32)
         requires wide { 256 ≤ range }
         requires narrow { range ≤ 510 }
         requires least { 9 ≤ bits }
         requires most { bits ≤ 25 }
         requires small { 2 * (low + range) ≤ 3 * 2 ^ bits }
-        ensures { self.new.failed ≡ false → Settled self.old self.new low range bits }
+        ensures { self.new.failed ≡ false → PutsBits self.old self.new low range bits }
     {
         self.range = range;
         if bits < 18 {
             self.low = low;
             self.bits = bits;
         } else {
-            let out = put_out(&mut self.out, low, bits);
+            let out = put_byte(&mut self.out, low, bits);
             self.failed |= !out;
             self.low = rest_of(low, range, bits);
             self.bits = bits - 8;
         }
     }
 
-    /// Leaves out `skip` of the interval, keeps `width` of it, and doubles (9.3.4.3.3).
+    /// Leaves out `skip` of the interval and has `width` of it, doubled until it has 256 (RenormE).
     #[inline(always)]
-    pub fn keep(&mut self, skip: u32, width: u32)
-        requires some { 0 < width }
+    pub fn renormalise(&mut self, skip: u32, width: u32)
+        requires least { 0 < width }
         requires inside { skip + width ≤ self.old.range }
-        ensures { self.new.failed ≡ false → Kept self.old self.new (part skip width) }
+        ensures { self.new.failed ≡ false → Cuts self.old self.new (part skip width) }
     {
         let times = doublings(width);
-        let low = raised(self.low, self.range, self.bits, skip, width, times);
-        self.settle(low, doubled(width, times), self.bits + times);
+        let low = new_low(self.low, self.range, self.bits, skip, width, times);
+        self.put_bits(low, new_range(width, times), self.bits + times);
     }
 
-    /// Keeps the more probable part of the interval, which is the low one, or the other.
+    /// Has the more probable part of the interval, which is the low one, or the other of width `lps`
+    /// (EncodeDecision).
     #[inline(always)]
-    pub fn split(&mut self, lps: u32, probable: bool)
-        requires some { 0 < lps }
-        requires few { lps < self.old.range }
+    pub fn encode_decision(&mut self, lps: u32, is_mps: bool)
+        requires least { 0 < lps }
+        requires most { lps < self.old.range }
         ensures { self.new.failed ≡ false →
-            Kept self.old self.new (cut_at self.old.range lps probable) }
+            Cuts self.old self.new (cut_at self.old.range lps is_mps) }
     {
-        if probable {
-            self.keep(0, self.range - lps);
+        if is_mps {
+            self.renormalise(0, self.range - lps);
         } else {
-            self.keep(self.range - lps, lps);
+            self.renormalise(self.range - lps, lps);
         }
     }
 
-    /// Doubles, and leaves out the low half where the value is true (9.3.4.3.4).
+    /// Doubles, and leaves out the low half where the value is true (EncodeBypass).
     #[inline(always)]
-    pub fn halve(&mut self, value: bool)
+    pub fn encode_bypass(&mut self, value: bool)
         ensures { self.new.failed ≡ false →
-            Kept self.old self.new (cut [] self.old.range Bypass value) }
+            Cuts self.old self.new (cut [] self.old.range Bypass value) }
     {
         let skip = skip_of(self.range, value);
-        let low = halved(self.low, self.range, self.bits, skip);
-        self.settle(low, self.range, self.bits + 1);
+        let low = bypass_low(self.low, self.range, self.bits, skip);
+        self.put_bits(low, self.range, self.bits + 1);
     }
 
-    /// The bytes of the word that ends here, with zeros to the byte.
-    pub fn finish(self) -> Result<Vec<u8>, NoMemory>
+    /// Has the part of the interval in which the slice goes on, where the value is false. The bin that
+    /// ends the slice leaves the interval as it is: `flush` puts the last digits (EncodeTerminate).
+    #[inline(always)]
+    pub fn encode_terminate(&mut self, value: bool)
+        ensures goes_on { value ≡ false → self.new.failed ≡ false →
+            Cuts self.old self.new (part 0 (self.old.range - 2)) }
+        ensures ends { value ≡ true → self.new ≡ self.old }
+    {
+        if !value {
+            self.renormalise(0, self.range - 2);
+        }
+    }
+
+    /// The bytes of the word that ends here, with zeros to the byte (EncodeFlush).
+    pub fn flush(self) -> Result<Vec<u8>, NoMemory>
         ensures { (i : Interval) → (self.failed ≡ false → Holds self i) →
             IfOk result (λ bytes. bytes.items ≡ bytes_of (word_at i)) }
     {

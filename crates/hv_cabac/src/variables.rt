@@ -1,13 +1,13 @@
 //! The context variables of a slice.
 
-ghost use Rattle.std.specs.Prelude.{◌≡◌, ◌≤◌, slice_index_or, slice_set, pos, ◌+ℤ◌, ◌*ℤ◌};
+ghost use Rattle.std.specs.Prelude.{◌≡◌, ◌<◌, ◌≤◌, slice_index_or, slice_set, pos, ◌+ℤ◌, ◌*ℤ◌};
 ghost use Rattle.std.specs.Int.{int_shr};
 ghost use Rattle.std.specs.Int.RustNames.{unsigned_abs};
-ghost use Rattle.hv_entropy_model.specs.Contexts.{first_variable, first_variables, preCtxState, no_variable};
+ghost use Rattle.hv_entropy_model.specs.Contexts.{first_variable, first_variables, preCtxState, no_variable, lps_width, next_variable};
 ghost use Rattle.hv_lemmas.specs.Clipping.{clip3};
 ghost use Rattle.hv_cabac.specs.Variables.{variable_of, slope_of, offset_of};
 
-use crate::tables::{CONTEXTS, init_values};
+use hv_tables::{CONTEXTS, init_values, next_state, range_tab_lps};
 use hv_types::SliceKind;
 
 /// How steeply a variable's start falls or rises with the quantiser (9.3.2.2).
@@ -61,6 +61,25 @@ fn first_state(qp: u8, init_value: u8) -> u8
     } else {
         (63 - state) * 2
     }
+}
+
+/// The width of the less probable part of a range (9.3.4.3.2.1).
+#[inline(always)]
+#[tactic(auto, unfolding(hv_entropy_model::specs::Contexts::lps_width))]
+pub fn lps_width(state: u8, range: u32) -> u32
+    ensures value { result ≡ lps_width (variable_of state) range }
+    ensures least { 2 ≤ result }
+    ensures most { result ≤ 240 }
+{
+    u32::from(range_tab_lps(state / 2 % 64, (range / 64 % 4) as u8))
+}
+
+/// The state after a bin of this value (9.3.4.3.2.2).
+#[inline(always)]
+pub fn state_after(state: u8, value: bool) -> u8
+    ensures { variable_of result ≡ next_variable (variable_of state) value }
+{
+    next_state(state, value)
 }
 
 /// The states of all context variables in the order of their places, each 2 * pStateIdx + valMps.

@@ -5,7 +5,7 @@ use Rattle.std.proofs.lemmas.Bool.{cond_both, and_parts}
 use Rattle.std.proofs.lemmas.List.Sums.{AllPass-from_list_all}
 use Rattle.std.specs.List.{list_all}
 use Rattle.hv_types.specs.Bins.{Question, Context, Bypass, Terminate, Bin}
-use Rattle.hv_tables.specs.ArithmeticTables.{rangeTabLps}
+use Rattle.hv_tables.proofs.ArithmeticTableLemmas.{width_bounds}
 use Rattle.hv_entropy_model.specs.Contexts.{ContextVariable, variable_at, lps_width}
 use Rattle.hv_lemmas.specs.Booleans.{same}
 use Rattle.hv_entropy_model.specs.IntervalLaws.{IsWithin}
@@ -34,32 +34,11 @@ pub shift_fits : (w : ℕ) → 0 < w → w ≤ 510 →
 unfolding shift_of
 shift_fits w p q = doubled 8 w p q (omega arith)
 
--- ---- the table's bounds
-in_range : ℕ → Bool
-in_range x = ltb 1 x && ltb x 241
-
-row_in_range : List ℕ → Bool
-row_in_range row = ltb 3 (length row) && list_all in_range row
-
-rows_in_range : list_all row_in_range rangeTabLps ≡ true
-unfolding row_in_range in_range
-rows_in_range = refl
-
 -- the less probable part has 2 to 240 of any range
 pub lps_bounds : (v : ContextVariable) (range : ℕ) →
     (1 < lps_width v range) × (lps_width v range < 241)
-unfolding lps_width in_range row_in_range
-lps_bounds v range =
-    let x : ℕ = lps_width v range in
-    let row = get_or rangeTabLps (v.pStateIdx % 64) [] in
-    let h = AllPass-from_list_all row_in_range rangeTabLps rows_in_range (v.pStateIdx % 64) []
-    (omega arith) in
-    let t = and_parts (ltb 3 (length row)) (list_all in_range row) h in
-    let four : 3 < length row = ltb-true 3 (length row) t.0 in
-    let k : in_range x ≡ true =
-    AllPass-from_list_all in_range row t.1 (range / 64 % 4) 0 (omega (arith, four)) in
-    let parts = and_parts (ltb 1 x) (ltb x 241) k in
-    (ltb-true 1 x parts.0, ltb-true x 241 parts.1)
+unfolding lps_width
+lps_bounds v range = width_bounds (v.pStateIdx % 64) (range / 64 % 4) (omega arith) (omega arith)
 
 -- ---- one bin
 part_within : (range skip w : ℕ) → 0 < w → w ≤ 510 → skip + w ≤ range →

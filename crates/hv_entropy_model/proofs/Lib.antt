@@ -1,5 +1,5 @@
 pub mod IntervalLemmas
 pub mod ReadingLemmas
 pub mod OracleLemmas
-pub mod TableLemmas
 mod WorkedWords
+mod WorkedStarts

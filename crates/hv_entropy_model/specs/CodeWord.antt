@@ -4,7 +4,8 @@ use Rattle.std.specs.Prelude.{◌≡◌, ℕ, zero, suc, ◌+◌, ◌-◌, ◌*�
 use Rattle.hv_types.specs.declared.bins.SliceKind.{SliceKind}
 use Rattle.hv_types.specs.Bins.{Question, Context, Bypass, Terminate, Bin}
 use Rattle.hv_stream_model.specs.Bits.{digits}
-use Rattle.hv_entropy_model.specs.Contexts.{ContextVariable, IsValid, variable_at, with_variable, lps_width, next_variable, first_variables}
+use Rattle.hv_entropy_model.specs.Contexts.{ContextVariable, variable_at, with_variable, lps_width, next_variable, first_variables}
+use Rattle.hv_tables.specs.ContextTables.{IsValid}
 use Rattle.hv_lemmas.specs.Booleans.{same}
 
 -- ---- what a bin does with the interval

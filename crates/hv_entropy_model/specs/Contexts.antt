@@ -6,20 +6,12 @@ use Rattle.hv_types.specs.declared.bins.SliceKind.{SliceKind}
 use Rattle.hv_types.specs.declared.bins.Ctx.{Ctx}
 use Rattle.hv_lemmas.specs.Booleans.{same}
 use Rattle.hv_lemmas.specs.Clipping.{clip3}
-use Rattle.hv_tables.specs.ContextTables.{initValue, offset_of, tables, values_of}
+use Rattle.hv_tables.specs.ContextTables.{tables, values_of, place_of}
 use Rattle.hv_tables.specs.ArithmeticTables.{rangeTabLps, transIdxLps}
 
 pub record ContextVariable : Type 0 where
   pub pStateIdx : ℕ
   pub valMps : Bool
-
--- a context has a variable in slices of this kind
-abbrev pub IsValid : SliceKind → Ctx → Type 0
-IsValid kind context = context.index < length (initValue kind context.table)
-
--- the place of a context's variable among all of them
-abbrev pub place_of : Ctx → ℕ
-place_of context = offset_of context.table + context.index
 
 -- ---- initialization (9.3.2.2)
 

@@ -1,7 +1,7 @@
 -- What a bin does with the interval of the arithmetic encoder (9.3.4.3).
 use Rattle.std.specs.Prelude.{◌≡◌, ℕ, ◌+◌, ◌*◌, ◌^◌, ◌<◌, ◌≤◌, Bool, false, List}
 use Rattle.hv_types.specs.Bins.{Question}
-use Rattle.hv_entropy_model.specs.Contexts.{ContextVariable}
+use Rattle.hv_entropy_model.specs.Contexts.{ContextVariable, lps_width}
 use Rattle.hv_entropy_model.specs.CodeWord.{shift_of, Cut, cut, is_last}
 
 -- a width of 1 to 510 is doubled into 256 to 510
@@ -22,3 +22,9 @@ CutsAreWithin =
     (variables : List ContextVariable) (range : ℕ) (question : Question) (value : Bool) →
     256 ≤ range → range ≤ 510 → is_last question value ≡ false →
     IsWithin range (cut variables range question value)
+
+-- the less probable part of any range has 2 to 240
+abbrev pub LpsWidthIsBounded : Type 0
+LpsWidthIsBounded =
+    (variable : ContextVariable) (ivlCurrRange : ℕ) →
+    (1 < lps_width variable ivlCurrRange) × (lps_width variable ivlCurrRange < 241)

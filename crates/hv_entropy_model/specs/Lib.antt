@@ -3,4 +3,3 @@ pub mod CodeWord
 pub mod Oracle
 pub mod ReadingBack
 pub mod IntervalLaws
-pub mod TableLaws

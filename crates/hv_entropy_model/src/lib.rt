@@ -3,10 +3,8 @@
 //! its contract.
 #![tactic(auto)]
 
-mod context_tables;
-mod interval_laws;
+mod interval;
 mod reading_back;
 
-pub use context_tables::{context_tables_law, lps_width_law};
-pub use interval_laws::interval_law;
+pub use interval::{interval_laws, lps_width_is_bounded};
 pub use reading_back::{code_word_is_read_back, scripts_read_code_words, scripts_read_listed};

@@ -2,5 +2,4 @@ pub mod BitPlaceLemmas
 pub mod PlainLemmas
 pub mod NumberLemmas
 pub mod SignedLemmas
-pub mod TransitionLemmas
 mod FieldStepLemmas

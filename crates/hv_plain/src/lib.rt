@@ -10,7 +10,6 @@ mod escaping;
 mod fields;
 mod interval;
 mod reader;
-mod tables;
 #[cfg(test)]
 mod tests;
 mod variables;

@@ -2,12 +2,10 @@
 
 ghost use Rattle.std.specs.Prelude.{◌≡◌, ◌+◌, ◌*◌, ◌/◌, ◌%◌, ◌<◌, ◌≤◌, cond, not, nat_eq, IfOk, flat_map, length, slice_index_or, pos, negsuc, ◌+ℤ◌, ◌-ℤ◌, ◌*ℤ◌, ◌≤ℤ◌};
 ghost use Rattle.std.specs.Int.{int_shr};
-ghost use Rattle.hv_tables.specs.ArithmeticTables.{transIdxLps};
-ghost use Rattle.hv_tables.specs.ContextTables.{tables, values_of};
 ghost use Rattle.hv_lemmas.specs.Clipping.{clip3};
 ghost use Rattle.hv_entropy_model.specs.Contexts.{preCtxState, first_variable, first_variables, lps_width, after_mps, after_lps, next_variable};
 
-use crate::tables::{INIT_VALUE_I, INIT_VALUE_P, RANGE_TAB_LPS, TRANS_IDX_LPS};
+use hv_tables::{init_values, range_tab_lps, trans_idx_lps};
 use hv_types::SliceKind;
 use std::alloc::{AllocError, Global};
 use std::marker::Model;
@@ -55,17 +53,6 @@ impl Variable {
         ensures { result ≡ self.valMps }
     {
         self.val_mps
-    }
-}
-
-/// initValue of all context variables, in the order of their places (9.3.2.2).
-fn init_values(kind: SliceKind) -> &'static [u8; 140]
-    ensures value { result.now ≡ flat_map (values_of kind) tables }
-    ensures count { length result.now ≡ 140 }
-{
-    match kind {
-        SliceKind::I => &INIT_VALUE_I,
-        SliceKind::P => &INIT_VALUE_P,
     }
 }
 
@@ -163,21 +150,13 @@ pub fn first_variables(alloc: Global, kind: SliceKind, qp: u8) -> Result<Vec<Var
 }
 
 /// The width of the less probable part of a range (9.3.4.3.2).
-#[tactic(auto, using(hv_entropy_model::proofs::IntervalLemmas::lps_bounds), unfolding(hv_entropy_model::specs::Contexts::lps_width))]
+#[tactic(auto, unfolding(hv_entropy_model::specs::Contexts::lps_width))]
 pub fn lps_width(v: Variable, range: u32) -> u32
     ensures value { result ≡ lps_width v range }
     ensures least { 2 ≤ result }
     ensures most { result ≤ 240 }
 {
-    u32::from(RANGE_TAB_LPS[usize::from(v.p_state_idx % 64)][(range / 64 % 4) as usize])
-}
-
-/// transIdxLps of a state (9.3.4.3.2.2).
-fn trans_idx_lps(state: u8) -> u8
-    requires { state < 64 }
-    ensures { result ≡ slice_index_or transIdxLps state 63 }
-{
-    TRANS_IDX_LPS[usize::from(state)]
+    u32::from(range_tab_lps(v.p_state_idx % 64, (range / 64 % 4) as u8))
 }
 
 /// The more probable value after the less probable one (9.3.4.3.2.2).

@@ -1,1 +1,3 @@
 pub mod ComputedLemmas
+pub mod ContextTableLemmas
+pub mod ArithmeticTableLemmas

@@ -1,7 +1,8 @@
 -- The context variables of each syntax element: their places, and the values that they start from (9.3.2.2).
-use Rattle.std.specs.Prelude.{ℕ, ◌-◌, List, [], ◌∷◌, ◌++◌, length, replicate}
+use Rattle.std.specs.Prelude.{ℕ, ◌+◌, ◌-◌, ◌<◌, List, [], ◌∷◌, ◌++◌, flat_map, length, replicate}
 use Rattle.hv_types.specs.declared.bins.SliceKind.{SliceKind}
 use Rattle.hv_types.specs.declared.bins.SliceKind.TheVariants.{I, P}
+use Rattle.hv_types.specs.declared.bins.Ctx.{Ctx}
 use Rattle.hv_types.specs.declared.bins.CtxTable.{CtxTable}
 use Rattle.hv_types.specs.declared.bins.CtxTable.TheVariants.{Split, Skip, PartMode, PredMode, PrevIntra, ChromaMode, Merge, RefIdx, MvdGreater0, MvdGreater1, MvpFlag, RootCbf, CbfLuma, CbfChroma, SaoMerge, SaoType, LastX, LastY, CodedSub, Sig, Greater1, Greater2}
 
@@ -138,3 +139,15 @@ tables =
 abbrev pub values_of : SliceKind → CtxTable → List ℕ
 values_of kind table =
     initValue kind table ++ replicate (size_of table - length (initValue kind table)) 154
+
+-- the values of all variables, in the order of their places
+unfoldable pub values_of_kind : SliceKind → List ℕ
+values_of_kind kind = flat_map (values_of kind) tables
+
+-- a context has a variable in slices of this kind
+abbrev pub IsValid : SliceKind → Ctx → Type 0
+IsValid kind context = context.index < length (initValue kind context.table)
+
+-- the place of a context's variable among all of them
+abbrev pub place_of : Ctx → ℕ
+place_of context = offset_of context.table + context.index

@@ -4,24 +4,24 @@ use Rattle.hv_cabac.proofs.BoundLemmas.{leading_shift}
 use Rattle.hv_cabac.proofs.register.doublings.Goals as goal
 
 pub overflow_sub-result : goal.overflow_sub-result
-overflow_sub-result c = (leading_shift c.args.width c.requires.some c.requires.few).0
+overflow_sub-result c = (leading_shift c.args.width c.requires.least c.requires.most).0
 
 pub returns-clause-shift : goal.returns-clause-shift
-returns-clause-shift c = (leading_shift c.args.width c.requires.some c.requires.few).1
+returns-clause-shift c = (leading_shift c.args.width c.requires.least c.requires.most).1
 
-pub returns-clause-few : goal.returns-clause-few
-returns-clause-few c = (leading_shift c.args.width c.requires.some c.requires.few).2
+pub returns-clause-most : goal.returns-clause-most
+returns-clause-most c = (leading_shift c.args.width c.requires.least c.requires.most).2
 
 pub returns-clause-wide : goal.returns-clause-wide
 returns-clause-wide c =
     let w = c.args.width in
-    let shift = (leading_shift w c.requires.some c.requires.few).1 in
-    let fits = shift_fits w c.requires.some c.requires.few in
+    let shift = (leading_shift w c.requires.least c.requires.most).1 in
+    let fits = shift_fits w c.requires.least c.requires.most in
     subst (λ (k : ℕ). 256 ≤ w * 2 ^ k) (sym shift) fits.0
 
 pub returns-clause-narrow : goal.returns-clause-narrow
 returns-clause-narrow c =
     let w = c.args.width in
-    let shift = (leading_shift w c.requires.some c.requires.few).1 in
-    let fits = shift_fits w c.requires.some c.requires.few in
+    let shift = (leading_shift w c.requires.least c.requires.most).1 in
+    let fits = shift_fits w c.requires.least c.requires.most in
     subst (λ (k : ℕ). w * 2 ^ k ≤ 510) (sym shift) fits.1

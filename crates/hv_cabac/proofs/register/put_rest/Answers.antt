@@ -5,10 +5,10 @@ use Rattle.hv_cabac.proofs.register.put_rest.Goals as goal
 pub loop-left-preserved : goal.loop-left-preserved
 loop-left-preserved c =
     let l = c.loop-left in
-    let out = c.if-not-put_out-2.ensures in
-    let rest = c.lower-rest-in-loop-left.ensures in
+    let out = c.if-not-put_byte-2.ensures in
+    let rest = c.low_digits-rest-in-loop-left.ensures in
     let old = c.args.out.now.items in
-    let new = c.put_out-in-loop-left.new.out.items in
+    let new = c.put_byte-in-loop-left.new.out.items in
     record {
       few = omega arith;
       whole = omega arith;

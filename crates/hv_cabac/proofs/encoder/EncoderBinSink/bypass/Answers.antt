@@ -8,6 +8,6 @@ returns c = λ kind qp before stood.
     let old = c.args.self.now.register in
     record {
       stands =
-          stands_more old _ _ _ kind qp before Bypass c.args.value refl stood.stands c.halve.ensures
+          stands_more old _ _ _ kind qp before Bypass c.args.value refl stood.stands c.encode_bypass.ensures
           refl;
     }

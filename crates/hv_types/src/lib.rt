@@ -17,6 +17,7 @@ mod settings_laws;
 mod standard;
 mod steady;
 mod video_laws;
+mod window;
 mod words;
 
 pub use answers::{Failed, NoMemory};
@@ -35,4 +36,5 @@ pub use steady::{SteadySink, SteadySource};
 pub use video_laws::{
     bytes_law, crop_pad_law, front_law, pad_law, raw_law, read_back_law, split_law, tabulate_law,
 };
+pub use window::Window;
 pub use words::Words;

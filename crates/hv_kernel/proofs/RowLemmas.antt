@@ -6,7 +6,8 @@ use Rattle.std.proofs.lemmas.Simd.{length-chunk}
 use Rattle.hv_kernel.specs.Differences.{sad_of}
 use Rattle.std.specs.Int.{abs_diff}
 use Rattle.hv_kernel.proofs.PairLemmas.{sum_of_pairs-append}
-use Rattle.hv_kernel.specs.Blocks.{HoldsBlock, row_of, sum_of_rows}
+use Rattle.hv_types.specs.Windows.{HoldsBlock, row_of_block}
+use Rattle.hv_kernel.specs.Blocks.{sum_of_rows}
 
 pub sum_of_no_rows : (of_row : ℕ → ℕ) → sum_of_rows of_row 0 ≡ 0
 unfolding sum_of_rows
@@ -17,8 +18,8 @@ unfolding sum_of_rows
 sum_of_rows_more of_row y = rw add-one refl
 
 -- a row that is there has the block's width
-pub length-row_of : (samples : List ℕ) (stride width height y : ℕ) → HoldsBlock samples stride width height → y < height → length (row_of samples stride width y) ≡ width
-length-row_of samples stride width height y holds below = length-chunk (y * stride) width samples (holds y below)
+pub length-row_of_block : (samples : List ℕ) (stride width height y : ℕ) → HoldsBlock samples stride width height → y < height → length (row_of_block samples stride width y) ≡ width
+length-row_of_block samples stride width height y holds below = length-chunk (y * stride) width samples (holds y below)
 
 -- the sum after one more row, where the rows are counted on from y
 sum_after : (of_row : ℕ → ℕ) (y n m : ℕ) → m ≡ n + 1 → sum_of_rows of_row (y + m) ≡ sum_of_rows of_row (y + n) + of_row (y + n)
@@ -46,5 +47,5 @@ HoldsBlock-drop samples at stride width last height few ends =
     HoldsBlock-from_last_row (drop at samples) stride width last height few (omega (arith, length-drop at samples))
 
 -- row `y` of a block inside a picture, from the picture's sample `at` on
-pub row_of-drop : (samples : List ℕ) (at stride width y : ℕ) → row_of (drop at samples) stride width y ≡ take width (drop (at + y * stride) samples)
-row_of-drop samples at stride width y = ap (take width) (drop-drop (y * stride) at samples)
+pub row_of_block-drop : (samples : List ℕ) (at stride width y : ℕ) → row_of_block (drop at samples) stride width y ≡ take width (drop (at + y * stride) samples)
+row_of_block-drop samples at stride width y = ap (take width) (drop-drop (y * stride) at samples)

@@ -1,7 +1,7 @@
 -- Worked values of the definitions.
 use Rattle.std.proofs.Common.{◌≡◌, ℕ, List, [], ◌∷◌, refl}
 use Rattle.hv_kernel.specs.Differences.{sad_of, ssd_of}
-use Rattle.hv_kernel.specs.Blocks.{block_sad_of, block_ssd_of, sum_of_rows}
+use Rattle.hv_kernel.specs.Blocks.{sum_of_rows, sad_of_lists, ssd_of_lists}
 use Rattle.hv_kernel.specs.QuarterPicture.{quarter_sample}
 
 three_pairs : sad_of (1 ∷ 2 ∷ 3 ∷ []) (4 ∷ 0 ∷ 3 ∷ []) ≡ 5
@@ -20,11 +20,11 @@ first = 1 ∷ 2 ∷ 9 ∷ 3 ∷ 4 ∷ 9 ∷ []
 second : List ℕ
 second = 5 ∷ 5 ∷ 9 ∷ 9 ∷ 7 ∷ 7 ∷ []
 
-two_rows_of_two : block_sad_of first 3 second 4 2 2 ≡ 14
+two_rows_of_two : sad_of_lists first 3 second 4 2 2 ≡ 14
 unfolding sum_of_rows first second
 two_rows_of_two = refl
 
-two_squared_rows_of_two : block_ssd_of first 3 second 4 2 2 ≡ 50
+two_squared_rows_of_two : ssd_of_lists first 3 second 4 2 2 ≡ 50
 unfolding sum_of_rows first second
 two_squared_rows_of_two = refl
 

@@ -4,6 +4,7 @@
 
 mod blocks;
 mod lanes;
+mod pair;
 mod quarter;
 mod rows;
 mod sums;
@@ -14,5 +15,6 @@ pub use blocks::{
     sad_block_8, sad_block_16, sad_block_32, sad_block_64, ssd_block_8, ssd_block_16, ssd_block_32,
     ssd_block_64,
 };
+pub use pair::Pair;
 pub use quarter::decimate;
 pub use sums::{sad, ssd};

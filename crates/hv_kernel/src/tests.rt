@@ -1,5 +1,8 @@
 //! Sums from hand calculation.
+ghost use Rattle.std.specs.Prelude.{◌≡◌, ◌≤◌, length};
+
 use super::*;
+use hv_types::Window;
 
 /// The length, and the sums where each difference is 255.
 const LENGTHS: [(usize, u64, u64); 8] = [
@@ -62,42 +65,81 @@ fn fast_rows() -> [u8; 4096] {
     samples
 }
 
+/// A block of slow rows beside one of fast rows.
+fn slow_and_fast<'a>(slow: &'a [u8], fast: &'a [u8], columns: usize, rows: usize) -> Pair<'a>
+    requires slow { length slow.now ≡ 4288 }
+    requires fast { length fast.now ≡ 4096 }
+    requires narrow { columns ≤ 64 }
+    requires low { rows ≤ 64 }
+    ensures { result.first.columns ≡ columns }
+{
+    Pair {
+        first: Window {
+            samples: slow,
+            stride: 67,
+            columns,
+            rows,
+        },
+        second: Window {
+            samples: fast,
+            stride: 64,
+            columns,
+            rows,
+        },
+    }
+}
+
 /// The differences of row y are y, so the sums are those of y and of y * y, times the width.
 #[test]
 fn blocks_of_rows(rt: HostRuntime) {
     let slow = slow_rows();
     let fast = fast_rows();
-    assert_eq!(rt; sad_block_8(&slow, 67, &fast, 64, 8), 224);
-    assert_eq!(rt; sad_block_16(&slow, 67, &fast, 64, 16), 1920);
-    assert_eq!(rt; sad_block_32(&slow, 67, &fast, 64, 32), 15872);
-    assert_eq!(rt; sad_block_64(&slow, 67, &fast, 64, 64), 129024);
-    assert_eq!(rt; ssd_block_8(&fast, 64, &slow, 67, 8), 1120);
-    assert_eq!(rt; ssd_block_16(&fast, 64, &slow, 67, 16), 19840);
-    assert_eq!(rt; ssd_block_32(&fast, 64, &slow, 67, 32), 333312);
-    assert_eq!(rt; ssd_block_64(&fast, 64, &slow, 67, 64), 5462016);
+    assert_eq!(rt; sad_block_8(slow_and_fast(&slow, &fast, 8, 8)), 224);
+    assert_eq!(rt; sad_block_16(slow_and_fast(&slow, &fast, 16, 16)), 1920);
+    assert_eq!(rt; sad_block_16(slow_and_fast(&slow, &fast, 16, 5)), 160);
+    assert_eq!(rt; sad_block_16(slow_and_fast(&slow, &fast, 16, 0)), 0);
+    assert_eq!(rt; sad_block_32(slow_and_fast(&slow, &fast, 32, 32)), 15872);
+    assert_eq!(rt; sad_block_32(slow_and_fast(&slow, &fast, 32, 7)), 672);
+    assert_eq!(rt; sad_block_64(slow_and_fast(&slow, &fast, 64, 64)), 129024);
+    assert_eq!(rt; ssd_block_8(slow_and_fast(&slow, &fast, 8, 8)), 1120);
+    assert_eq!(rt; ssd_block_16(slow_and_fast(&slow, &fast, 16, 16)), 19840);
+    assert_eq!(rt; ssd_block_32(slow_and_fast(&slow, &fast, 32, 32)), 333312);
+    assert_eq!(rt; ssd_block_32(slow_and_fast(&slow, &fast, 32, 3)), 160);
+    assert_eq!(rt; ssd_block_64(slow_and_fast(&slow, &fast, 64, 64)), 5462016);
 }
 
-#[test]
-fn blocks_of_few_rows(rt: HostRuntime) {
-    let slow = slow_rows();
-    let fast = fast_rows();
-    assert_eq!(rt; sad_block_16(&slow, 67, &fast, 64, 0), 0);
-    assert_eq!(rt; sad_block_16(&slow, 67, &fast, 64, 5), 160);
-    assert_eq!(rt; sad_block_32(&slow, 67, &fast, 64, 3), 96);
-    assert_eq!(rt; sad_block_32(&fast, 64, &slow, 67, 7), 672);
-    assert_eq!(rt; ssd_block_16(&slow, 67, &fast, 64, 5), 480);
-    assert_eq!(rt; ssd_block_32(&slow, 67, &fast, 64, 3), 160);
+/// A block of 64 columns, or less, of samples with the stride 64.
+fn of_stride_64<'a>(samples: &'a [u8], columns: usize, rows: usize) -> Window<'a>
+    requires samples { length samples.now ≡ 4096 }
+    requires narrow { columns ≤ 64 }
+    requires low { rows ≤ 64 }
+    ensures columns { result.columns ≡ columns }
+    ensures rows { result.rows ≡ rows }
+{
+    Window {
+        samples,
+        stride: 64,
+        columns,
+        rows,
+    }
 }
 
 #[test]
 fn blocks_of_extreme_samples(rt: HostRuntime) {
     let black = [0u8; 4096];
     let white = [255u8; 4096];
-    assert_eq!(rt; sad_block_32(&black, 64, &white, 64, 64), 522240);
-    assert_eq!(rt; sad_block_64(&black, 64, &white, 64, 64), 1044480);
-    assert_eq!(rt; ssd_block_64(&black, 64, &white, 64, 64), 266342400);
-    assert_eq!(rt; sad_block_8(&white, 64, &black, 64, 8), 16320);
-    assert_eq!(rt; ssd_block_8(&white, 64, &black, 64, 8), 4161600);
+    let high = Pair {
+        first: of_stride_64(&black, 64, 64),
+        second: of_stride_64(&white, 64, 64),
+    };
+    let low = Pair {
+        first: of_stride_64(&white, 8, 8),
+        second: of_stride_64(&black, 8, 8),
+    };
+    assert_eq!(rt; sad_block_64(high), 1044480);
+    assert_eq!(rt; ssd_block_64(high), 266342400);
+    assert_eq!(rt; sad_block_8(low), 16320);
+    assert_eq!(rt; ssd_block_8(low), 4161600);
 }
 
 /// Square k of 20 columns has the sum 16k, and then 16k + 7 and 16k + 8.

@@ -1,11 +1,12 @@
 //! The kernels that can be run.
-ghost use Rattle.std.specs.Prelude.{◌≡◌, ◌+◌, ◌<◌, ◌≤◌, length};
+ghost use Rattle.std.specs.Prelude.{◌≡◌, ◌+◌, ◌*◌, ◌<◌, ◌≤◌, length};
 
 use crate::pictures::{Pictures, WIDTH};
 use hv_kernel::{
-    decimate, sad, sad_block_8, sad_block_16, sad_block_32, sad_block_64, ssd, ssd_block_8,
+    Pair, decimate, sad, sad_block_8, sad_block_16, sad_block_32, sad_block_64, ssd, ssd_block_8,
     ssd_block_16, ssd_block_32, ssd_block_64,
 };
+use hv_types::Window;
 
 const LISTED: usize = 4096;
 
@@ -16,6 +17,31 @@ fn part(samples: &[u8], at: usize, count: usize) -> &[u8]
     ensures { length result.now ≡ count }
 {
     &samples[at..at + count]
+}
+
+/// The blocks of so many columns and rows that begin two lists of samples.
+#[inline(always)]
+fn blocks<'a>(a: &'a [u8], b: &'a [u8], stride: usize, side: usize) -> Pair<'a>
+    requires side { side ≤ 64 }
+    requires stride { stride ≤ 512 }
+    requires first { 64 * 512 ≤ length a.now }
+    requires second { 64 * 512 ≤ length b.now }
+    ensures { result.first.columns ≡ side }
+{
+    Pair {
+        first: Window {
+            samples: a,
+            stride,
+            columns: side,
+            rows: side,
+        },
+        second: Window {
+            samples: b,
+            stride,
+            columns: side,
+            rows: side,
+        },
+    }
 }
 
 #[derive(Clone, Copy, PartialEq, Eq)]
@@ -86,14 +112,14 @@ impl Kernel {
         let a = &pictures.first[4 * place..];
         let b = &pictures.second[second_at..];
         match self {
-            Kernel::SadBlock8 => u64::from(sad_block_8(a, stride, b, stride, 8)),
-            Kernel::SadBlock16 => u64::from(sad_block_16(a, stride, b, stride, 16)),
-            Kernel::SadBlock32 => u64::from(sad_block_32(a, stride, b, stride, 32)),
-            Kernel::SadBlock64 => u64::from(sad_block_64(a, stride, b, stride, 64)),
-            Kernel::SsdBlock8 => u64::from(ssd_block_8(a, stride, b, stride, 8)),
-            Kernel::SsdBlock16 => u64::from(ssd_block_16(a, stride, b, stride, 16)),
-            Kernel::SsdBlock32 => u64::from(ssd_block_32(a, stride, b, stride, 32)),
-            Kernel::SsdBlock64 => u64::from(ssd_block_64(a, stride, b, stride, 64)),
+            Kernel::SadBlock8 => u64::from(sad_block_8(blocks(a, b, stride, 8))),
+            Kernel::SadBlock16 => u64::from(sad_block_16(blocks(a, b, stride, 16))),
+            Kernel::SadBlock32 => u64::from(sad_block_32(blocks(a, b, stride, 32))),
+            Kernel::SadBlock64 => u64::from(sad_block_64(blocks(a, b, stride, 64))),
+            Kernel::SsdBlock8 => u64::from(ssd_block_8(blocks(a, b, stride, 8))),
+            Kernel::SsdBlock16 => u64::from(ssd_block_16(blocks(a, b, stride, 16))),
+            Kernel::SsdBlock32 => u64::from(ssd_block_32(blocks(a, b, stride, 32))),
+            Kernel::SsdBlock64 => u64::from(ssd_block_64(blocks(a, b, stride, 64))),
             Kernel::Sad => sad(part(a, 0, LISTED), part(b, 0, LISTED)),
             Kernel::Ssd => ssd(part(a, 0, LISTED), part(b, 0, LISTED)),
             Kernel::Decimate => {

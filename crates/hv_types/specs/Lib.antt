@@ -9,3 +9,4 @@ pub mod SettingsLaws
 pub mod Video
 pub mod VideoLaws
 pub mod Standard
+pub mod Windows

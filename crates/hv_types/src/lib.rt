@@ -16,6 +16,7 @@ mod settings;
 mod standard;
 mod standard_output;
 mod steady;
+mod window;
 mod words;
 
 pub use answers::{Failed, NoMemory};
@@ -37,4 +38,5 @@ pub use settings::{
 pub use standard::{StdSink, StdSource};
 pub use standard_output::StandardOutput;
 pub use steady::{SteadySink, SteadySource};
+pub use window::Window;
 pub use words::Words;

@@ -132,6 +132,14 @@ impl Plane {
         &self.samples[start..start + self.width as usize]
     }
 
+    /// All samples, by rows.
+    pub fn samples(&self) -> &[u8]
+        ensures value { result.now ≡ self.now.samples }
+        ensures count { length result.now ≡ self.now.width * self.now.height }
+    {
+        &self.samples
+    }
+
     /// Puts `value` in column `x` of row `y`, both in the plane, and leaves every other sample.
     pub fn set(&mut self, x: u32, y: u32, value: u8)
         requires x { x < self.old.width }

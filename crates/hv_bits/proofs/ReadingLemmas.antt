@@ -1,11 +1,11 @@
 -- What stands behind the bits that were read, the number of the next ones, and the zeros among
 -- them.
-use Rattle.std.proofs.Common.{◌≡◌, ℕ, zero, suc, ◌+◌, ◌-◌, ◌*◌, ◌/◌, ◌%◌, ◌^◌, ◌<◌, ◌≤◌, List, [], ◌∷◌, ◌++◌, length, get_or, take, drop, min, add-one, false, inl, inr, bit_and, bit_or, sym, ap, ap₂, subst, ◌∙◌, arith, append_assoc, append-nil, length-drop, take-append-drop}
+use Rattle.std.proofs.Common.{◌≡◌, ℕ, zero, suc, ◌+◌, ◌-◌, ◌*◌, ◌/◌, ◌%◌, ◌^◌, ◌<◌, ◌≤◌, List, [], ◌∷◌, ◌++◌, length, get_or, take, drop, min, add-one, false, bit_and, bit_or, sym, ap, ap₂, subst, ◌∙◌, arith, append_assoc, append-nil, length-drop, take-append-drop}
 use Rattle.std.proofs.Math.Nat.{mod-eq_of_lt, div-eq_of_lt, pow-le-pow_right}
 use Rattle.std.specs.Prelude.{replicate, nat_eq}
 use Rattle.std.proofs.lemmas.Nat.{shl_whole, one_shl, or_shifted, and_mask, pow_pos, pow-add}
 use Rattle.std.proofs.lemmas.List.{take_at, drop_at, drop-drop, take-append-le, drop-append-le, length-take-le, take_all, take_more}
-use Rattle.std.proofs.lemmas.Bool.{cond_both, cases_lt, ne_eqb}
+use Rattle.std.proofs.lemmas.Bool.{cond_both, ne_eqb}
 use Rattle.hv_stream_model.specs.Bits.{digits, number_of, bits_of}
 use Rattle.hv_stream_model.specs.Fields.{leading_zeros}
 use Rattle.hv_stream_model.specs.BitLaws.{AreBits}

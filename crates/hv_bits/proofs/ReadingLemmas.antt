@@ -1,17 +1,17 @@
 -- What stands behind the bits that were read, the number of the next ones, and the zeros among
 -- them.
-use Rattle.std.proofs.Common.{◌≡◌, ℕ, zero, suc, ◌+◌, ◌-◌, ◌*◌, ◌/◌, ◌%◌, ◌^◌, ◌<◌, ◌≤◌, List, [], ◌∷◌, ◌++◌, length, get_or, take, drop, min, add-one, false, inl, inr, bit_and, bit_or, sym, ap, ap₂, subst, ◌∙◌, arith, append_assoc, append-nil, length-drop, take-append-drop}
+use Rattle.std.proofs.Common.{◌≡◌, ℕ, zero, suc, ◌+◌, ◌-◌, ◌*◌, ◌/◌, ◌%◌, ◌^◌, ◌<◌, ◌≤◌, List, [], ◌∷◌, ◌++◌, length, get_or, take, drop, min, add-one, false, bit_and, bit_or, sym, ap, ap₂, subst, ◌∙◌, arith, append_assoc, append-nil, length-drop, take-append-drop}
 use Rattle.std.proofs.Math.Nat.{mod-eq_of_lt, div-eq_of_lt, pow-le-pow_right}
 use Rattle.std.specs.Prelude.{replicate, nat_eq}
 use Rattle.std.proofs.lemmas.Nat.{shl_whole, one_shl, or_shifted, and_mask, pow_pos, pow-add}
 use Rattle.std.proofs.lemmas.List.{take_at, drop_at, drop-drop, take-append-le, drop-append-le, length-take-le, take_all, take_more}
-use Rattle.std.proofs.lemmas.Bool.{cond_both, cases_lt, ne_eqb}
+use Rattle.std.proofs.lemmas.Bool.{cond_both, ne_eqb}
 use Rattle.hv_stream_model.specs.Bits.{digits, number_of, bits_of}
 use Rattle.hv_stream_model.specs.Fields.{leading_zeros}
 use Rattle.hv_stream_model.specs.BitLaws.{AreBits}
 use Rattle.hv_stream_model.proofs.DigitLemmas.{length-digits, digits-add}
 use Rattle.hv_stream_model.proofs.BitLemmas.{number_of-digits, number_of-append, number_of_lt, digits-number_of, bits_of-append, length-bits_of, AreBits-bits_of, AreBits-drop, AreBits-take, drop-bits_of}
-use Rattle.hv_stream_model.proofs.FieldLemmas.{digits-zero, top_digit, leading_zeros-code}
+use Rattle.hv_stream_model.proofs.FieldLemmas.{digits-zero, top_digit, leading_zeros-code, exponent_below}
 
 -- bits that are passed
 pub drop_passed : (bytes : List ℕ) (s c : ℕ) →
@@ -173,15 +173,6 @@ leading_zeros-le (bit ∷ bits) =
     cond_both (nat_eq bit 0) (suc (leading_zeros bits)) 0 (λ n. n ≤ suc (length bits))
     (λ e. omega (arith, leading_zeros-le bits)) (λ e. omega arith)
 
--- a highest digit stands within the width of its number
-pub place_within : (k m n : ℕ) → 2 ^ k ≤ n → n < 2 ^ m → k < m
-place_within k m n a b =
-    elim (cases_lt k m) [
-      | inl h ↦ h
-      | inr h ↦ let two : 0 < 2 = omega arith in
-          let wide : 2 ^ m ≤ 2 ^ k = pow-le-pow_right two h in absurd (omega (arith, a, b, wide))
-    ]
-
 pub zeros_all : (bits : List ℕ) (m : ℕ) → AreBits bits → m ≡ min 33 (length bits) →
     number_of (take m bits) ≡ 0 →
     m ≡ min 33 (leading_zeros bits)
@@ -197,7 +188,7 @@ pub zeros_some : (bits : List ℕ) (m k v : ℕ) → AreBits bits → m ≡ min 
     v ≡ number_of (take m bits) →
     2 ^ k ≤ v → v < 2 * 2 ^ k → v < 2 ^ m → m - 1 - k ≡ min 33 (leading_zeros bits)
 zeros_some bits m k v p h e a b l =
-    let within : k < m = place_within k m v a l in
+    let within : k < m = exponent_below k m v a l in
     omega (
       arith,
       zeros_before bits m k p (omega arith) (subst (λ x. 2 ^ k ≤ x) e a) (subst (λ x. x

@@ -1,41 +1,20 @@
 -- Bits and the bytes that they make (7.2): digits of a number and back, bits of bytes and back, and
 -- numbers of bits from a place on.
-use Rattle.std.proofs.Common.{◌≡◌, ℕ, zero, suc, ◌+◌, ◌-◌, ◌*◌, ◌/◌, ◌%◌, ◌^◌, ◌<◌, ◌≤◌, List, [], ◌∷◌, ◌++◌, length, get_or, take, drop, refl, sym, ap, ap₂, ◌∙◌, subst, arith, pow_pos, pow-add, pow-suc, mul-le-mul_right, suc-add, one-add, append_assoc, length-append, length-drop, take-append-drop}
+use Rattle.std.proofs.Common.{◌≡◌, ℕ, zero, suc, ◌+◌, ◌*◌, ◌/◌, ◌%◌, ◌^◌, ◌<◌, ◌≤◌, List, [], ◌∷◌, ◌++◌, length, get_or, take, drop, refl, sym, ap, ap₂, ◌∙◌, subst, arith, pow-add, pow-suc, mul-le-mul_right, suc-add, one-add, append_assoc, length-append, length-drop, take-append-drop}
 use Rattle.std.specs.Prelude.{replicate}
 use Rattle.std.specs.Int.{byte_at, bytes_high_first}
-use Rattle.std.proofs.Math.Nat.{zero-add, mul-add-div_right}
+use Rattle.std.proofs.Math.Nat.{zero-add}
 use Rattle.std.proofs.lemmas.Nat.{mod-pow-add, shr_split, div-mul-add}
 use Rattle.std.proofs.lemmas.List.{take-append-le, drop-append-le, drop-drop, length-take-le}
 use Rattle.hv_stream_model.specs.Bits.{digits, number_of, bits_of, first_bytes, bytes_of}
 use Rattle.hv_stream_model.specs.BitLaws.{AreBits, AreBytes}
-use Rattle.hv_stream_model.proofs.DigitLemmas.{length-digits, digits-add}
+use Rattle.hv_stream_model.proofs.DigitLemmas.{length-digits, digits-add, digits_low_from}
 
 -- ---- binary digits
 
-digit_below : (k a v : ℕ) → (a * 2 ^ suc k + v) / 2 ^ k % 2 ≡ v / 2 ^ k % 2
-digit_below k a v =
-    let twice : a * 2 ^ suc k ≡ 2 * a * 2 ^ k = rw (pow-suc 2 k) (omega arith) in
-    rw twice (rw (mul-add-div_right (pow_pos k) (2 * a) v) (omega arith))
-
--- what stands above the place k + n is not seen in the lowest k digits
-digits-below : (k n a v : ℕ) → digits k (a * 2 ^ (k + n) + v) ≡ digits k v
-digits-below zero n a v = refl
-digits-below (suc k) n a v =
-    let moved : suc k + n ≡ n + suc k = omega arith in
-    let split : a * 2 ^ (suc k + n) ≡ a * 2 ^ n * 2 ^ suc k =
-    rw (moved, pow-add 2 n (suc k)) (omega arith) in
-    let head : (a * 2 ^ (suc k + n) + v) / 2 ^ k % 2 ≡ v / 2 ^ k % 2 =
-    rw split (digit_below k (a * 2 ^ n) v) in
-    let later : suc k + n ≡ k + suc n = omega arith in
-    let tail : digits k (a * 2 ^ (suc k + n) + v) ≡ digits k v =
-    rw later (digits-below k (suc n) a v) in
-    cc
-
--- the same for a number in two parts
+-- what stands above the place n isn't seen in the lowest k digits
 pub digits_low : (k n a v w : ℕ) → k ≤ n → w ≡ a * 2 ^ n + v → digits k w ≡ digits k v
-digits_low k n a v w h e =
-    let split : n ≡ k + (n - k) = omega arith in
-    rw (e, split) (digits-below k (n - k) a v)
+digits_low k n a v w h e = rw e (digits_low_from k a n v h)
 
 pub digits-mod : (k n v : ℕ) → k ≤ n → digits k (v % 2 ^ n) ≡ digits k v
 digits-mod k n v h = sym (digits_low k n (v / 2 ^ n) (v % 2 ^ n) v h (sym (shr_split v n)))

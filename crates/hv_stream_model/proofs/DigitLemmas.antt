@@ -15,7 +15,7 @@ digits-add zero j v = rw zero-add refl
 digits-add (suc k) j v = rw (suc-add k j) (rw (shr-shr v j k, add_comm j k, digits-add k j v) refl)
 
 -- the last k places do not see what stands above them
-digit_low : (j a k b : ℕ) → j < k → (a * 2 ^ k + b) / 2 ^ j % 2 ≡ b / 2 ^ j % 2
+pub digit_low : (j a k b : ℕ) → j < k → (a * 2 ^ k + b) / 2 ^ j % 2 ≡ b / 2 ^ j % 2
 digit_low j a k b h =
     let i : ℕ = k - j - 1 in
     let e : k ≡ i + (1 + j) = omega arith in
@@ -25,7 +25,7 @@ digit_low j a k b h =
     mul-add-div_right (pow_pos j) (a * 2 ^ i * 2) b in
     rw p (rw q (omega arith))
 
-digits_low_from : (j a k b : ℕ) → j ≤ k → digits j (a * 2 ^ k + b) ≡ digits j b
+pub digits_low_from : (j a k b : ℕ) → j ≤ k → digits j (a * 2 ^ k + b) ≡ digits j b
 digits_low_from zero a k b h = refl
 digits_low_from (suc j) a k b h =
     rw (digit_low j a k b h, digits_low_from j a k b (omega arith)) refl

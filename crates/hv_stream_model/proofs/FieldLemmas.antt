@@ -188,7 +188,7 @@ code_read k n rest few a b =
     ) refl
 
 -- the exponent of a power that is below another one
-exponent_below : (k m n : ℕ) → 2 ^ k ≤ n → n < 2 ^ m → k < m
+pub exponent_below : (k m n : ℕ) → 2 ^ k ≤ n → n < 2 ^ m → k < m
 exponent_below k m n a b =
     elim (cases_lt k m) [
       | inl h ↦ h

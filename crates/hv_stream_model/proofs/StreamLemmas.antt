@@ -3,6 +3,7 @@ use Rattle.std.proofs.Common.{◌≡◌, ◌≢◌, ℕ, zero, suc, ◌+◌, ◌
 use Rattle.std.specs.Prelude.{not, nat_eq, nat_lt, ◌&&◌, Option, Some, None}
 use Rattle.std.specs.List.{list_all, starts_with}
 use Rattle.std.proofs.lemmas.Bool.{and_parts, eqb-true, eqb-false, ltb-true, not-true}
+use Rattle.hv_lemmas.proofs.OptionLemmas.{some_same}
 use Rattle.hv_stream_model.specs.BitLaws.{AreBytes}
 use Rattle.hv_stream_model.specs.Units.{NalUnit, escape, strip, nal_bytes, last_of, IsUnit, IsByteStream, end, more, is_zero, leading_zero_bytes, unit_length, same_bytes, is_escaped_payload, unit_of, unit_then, is_start_code, units_within}
 use Rattle.hv_stream_model.specs.StreamLaws.{StreamsHaveOneList, FoundUnitsMakeTheStream}
@@ -90,9 +91,6 @@ unit_of_parts first second bytes small low some escaped =
           ap (λ b. (first / 2 * 2 + layer / 32) ∷ (layer % 32 * 8 + (second % 8 - 1) + 1) ∷ b)
           (sym (same_bytes-true (escape (strip bytes)) bytes both.0));
     }
-
-some_same : {A : Type 0} (a b : A) → Some a ≡ Some b → a ≡ b
-some_same a b e = cc
 
 unit_of_case : (first second : ℕ) (bytes : List ℕ) (unit : NalUnit) (t : Bool) →
     (nat_lt first 128 && not (nat_eq (second % 8) 0) && is_escaped_payload bytes) ≡ t →

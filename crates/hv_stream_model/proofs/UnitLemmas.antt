@@ -12,15 +12,16 @@ use Rattle.hv_stream_model.specs.Units.{end_in_zeros, escape_behind, escape, str
 
 -- ---- a running number of zero bytes
 
-some_byte : (byte : ℕ) → nat_eq (suc byte) 0 ≡ false
-some_byte byte = ne_eqb (suc byte) 0 (λ e. omega arith)
+is_zero-false : (byte : ℕ) → byte ≢ 0 → is_zero byte ≡ false
+is_zero-false byte h = ne_eqb byte 0 h
 
 end_in_zeros-runs : (before : List ℕ) → end_in_zeros before ≡ nat_lt 1 (leading_zero_bytes before)
 end_in_zeros-runs [] = refl
 end_in_zeros-runs (zero ∷ []) = refl
-end_in_zeros-runs (suc last ∷ []) = rw (some_byte last) refl
-end_in_zeros-runs (suc last ∷ byte ∷ others) = rw (some_byte last) refl
-end_in_zeros-runs (zero ∷ suc byte ∷ others) = rw (some_byte byte) refl
+end_in_zeros-runs (suc last ∷ []) = rw (is_zero-false (suc last) (λ e. omega arith)) refl
+end_in_zeros-runs (suc last ∷ byte ∷ others) = rw (is_zero-false (suc last) (λ e. omega arith)) refl
+end_in_zeros-runs (zero ∷ suc byte ∷ others) = 
+    rw (is_zero-false (suc byte) (λ e. omega arith)) refl
 end_in_zeros-runs (zero ∷ zero ∷ others) =
     sym (lt-ltb 1 (suc (suc (leading_zero_bytes others))) (omega arith))
 
@@ -144,9 +145,6 @@ last_of-behind byte [] h = absurd (h refl)
 last_of-behind byte (next ∷ bytes) h = h
 
 -- ---- where a unit ends
-
-is_zero-false : (byte : ℕ) → byte ≢ 0 → is_zero byte ≡ false
-is_zero-false byte h = ne_eqb byte 0 h
 
 not_all_zero : (bytes next : List ℕ) → last_of bytes ≢ 0 → list_all is_zero (bytes ++ next) ≡ false
 not_all_zero [] next h = absurd (h refl)

@@ -1,12 +1,13 @@
 use Rattle.std.proofs.Common.{◌≡◌, arith, ap, ◌∙◌, sym, min, take, length}
 use Rattle.hv_stream_model.specs.Bits.{number_of}
-use Rattle.hv_bits.proofs.ReadingLemmas.{left_bits, AreBits-left, place_within, zeros_all, zeros_some}
+use Rattle.hv_stream_model.proofs.FieldLemmas.{exponent_below}
+use Rattle.hv_bits.proofs.ReadingLemmas.{left_bits, AreBits-left, zeros_all, zeros_some}
 use Rattle.hv_bits.proofs.reader.BitReader.zeros.Goals as goal
 use Rattle.hv_bits.proofs.reader.BitReader.zeros.Goals.{then-self-lt5, else-self-lt5}
 
 pub overflow_sub-result-else-number-eq0 : goal.overflow_sub-result-else-number-eq0
 overflow_sub-result-else-number-eq0 c =
-    omega (arith, place_within _ _ _ c.ilog2.ensures.power_le c.number_at-number.ensures.bound)
+    omega (arith, exponent_below _ _ _ c.ilog2.ensures.power_le c.number_at-number.ensures.bound)
 
 pub returns-then-number-eq0 : goal.returns-then-number-eq0
 returns-then-number-eq0 c =

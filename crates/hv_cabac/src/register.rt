@@ -125,6 +125,18 @@ fn bypass_low(low: u64, range: u32, bits: u32, skip: u32) -> u64
     low * 2 + u64::from(skip)
 }
 
+/// The number of the word's last digits, the stop bit (9.3.2.5) among them.
+#[inline(always)]
+fn last_digits(low: u64, range: u32) -> u64
+    requires wide { 256 ≤ range }
+    requires fits { low + range < 2 ^ 32 }
+    ensures value { result ≡ odd_from (low + range - 2) }
+    ensures most { result < low + range }
+{
+    let last = low + u64::from(range) - 2;
+    last + (1 - last % 2)
+}
+
 /// The word's last digits, the stop bit (9.3.2.5) among them, and `pad` zeros.
 #[inline(always)]
 fn last_of(low: u64, range: u32, bits: u32, pad: u32) -> u64
@@ -135,8 +147,7 @@ fn last_of(low: u64, range: u32, bits: u32, pad: u32) -> u64
     ensures value { result ≡ odd_from (low + range - 2) * 2 ^ pad }
     ensures small { 2 * result < 3 * 2 ^ (bits + pad) }
 {
-    let last = low + u64::from(range) - 2;
-    (last + (1 - last % 2)) << pad
+    last_digits(low, range) << pad
 }
 
 /// The lowest digits of a register.

@@ -58,6 +58,7 @@ fn put_three<B: BinSink>(sink: &mut B)
     sink.terminate(true);
 }
 
+/// The bytes of the bins of `put_three`.
 fn three_bins(alloc: Global, qp: u8) -> Result<Vec<u8>, NoMemory>
     ensures { IfOk result (λ bytes. bytes.items ≡ bytes_of (word P qp
         (context_bin (record { table = CodedSub; index = 3 }) true ∷
@@ -66,6 +67,15 @@ fn three_bins(alloc: Global, qp: u8) -> Result<Vec<u8>, NoMemory>
     let mut encoder = Encoder::new(alloc, SliceKind::P, qp);
     put_three(&mut encoder);
     encoder.finish()
+}
+
+/// A caller that counts the same bins.
+fn three_counted() -> u64
+    ensures { result ≡ 3 }
+{
+    let mut counter = Counter::new();
+    put_three(&mut counter);
+    counter.count()
 }
 
 #[test]
@@ -102,6 +112,7 @@ fn bins_are_counted(rt: HostRuntime) {
     let mut counter = Counter::new();
     put_grey_block(&mut counter);
     assert_eq!(rt; counter.count(), 14);
+    assert_eq!(rt; three_counted(), 3);
 }
 
 /// The 120 digits of the least number that makes 2 to the 128th and more of 510, and 16 zeros: the

@@ -1,9 +1,7 @@
 -- What a bin does with the interval, and that the number of the code word lies in each interval of
 -- its coding.
-use Rattle.std.proofs.Common.{◌≡◌, ℕ, zero, suc, ◌+◌, ◌-◌, ◌*◌, ◌/◌, ◌%◌, ◌^◌, ◌<◌, ◌≤◌, Bool, true, false, cond, ◌&&◌, ltb, List, [], ◌∷◌, length, get_or, refl, arith, ltb-true, ltb-false, pow-suc, pow-add, mul-le-mul_right}
-use Rattle.std.proofs.lemmas.Bool.{cond_both, and_parts}
-use Rattle.std.proofs.lemmas.List.Sums.{AllPass-from_list_all}
-use Rattle.std.specs.List.{list_all}
+use Rattle.std.proofs.Common.{◌≡◌, ℕ, zero, suc, ◌+◌, ◌-◌, ◌*◌, ◌/◌, ◌%◌, ◌^◌, ◌<◌, ◌≤◌, Bool, true, false, cond, ltb, List, [], ◌∷◌, refl, arith, ltb-true, ltb-false, pow-suc, pow-add, mul-le-mul_right}
+use Rattle.std.proofs.lemmas.Bool.{cond_both}
 use Rattle.hv_types.specs.Bins.{Question, Context, Bypass, Terminate, Bin}
 use Rattle.hv_tables.proofs.ArithmeticTableLemmas.{width_bounds}
 use Rattle.hv_entropy_model.specs.Contexts.{ContextVariable, variable_at, lps_width}

@@ -1,5 +1,5 @@
 -- Context variables: where each starts in a slice, and how it adapts (9.3.2.2, 9.3.4.3.2).
-use Rattle.std.specs.Prelude.{ℕ, ◌+◌, ◌-◌, ◌*◌, ◌/◌, ◌%◌, ◌<◌, Bool, true, false, cond, not, nat_eq, nat_lt, min, List, [], map, length, flat_map, slice_index_or, slice_set, pos, ◌+ℤ◌, ◌-ℤ◌, ◌*ℤ◌}
+use Rattle.std.specs.Prelude.{ℕ, ◌+◌, ◌-◌, ◌*◌, ◌/◌, ◌%◌, Bool, true, false, cond, not, nat_eq, nat_lt, min, List, [], map, flat_map, slice_index_or, slice_set, pos, ◌+ℤ◌, ◌-ℤ◌, ◌*ℤ◌}
 use Rattle.std.specs.Int.{int_shr}
 use Rattle.std.specs.Int.RustNames.{unsigned_abs}
 use Rattle.hv_types.specs.declared.bins.SliceKind.{SliceKind}

@@ -4,6 +4,7 @@ use Rattle.std.specs.Prelude.{replicate}
 use Rattle.hv_stream_model.specs.Bits.{digits}
 use Rattle.hv_stream_model.specs.Fields.{log2_of, exp_golomb}
 use Rattle.hv_stream_model.proofs.DigitLemmas.{digits-add}
+use Rattle.hv_stream_model.proofs.FieldLemmas.{digits-zero}
 
 digits_last : (k v : ℕ) → 0 < k → digits (k - 1) (v / 2) ++ v % 2 ∷ [] ≡ digits k v
 digits_last zero v h = absurd (omega arith)
@@ -20,17 +21,10 @@ pub digits_more : (old : List ℕ) (k v : ℕ) → 0 < k →
 digits_more old k v h =
     append_assoc old (digits (k - 1) (v / 2)) (v % 2 ∷ []) ∙ ap (λ w. old ++ w) (digits_last k v h)
 
-digits_zeros : (k : ℕ) → digits k 0 ≡ replicate k 0
-digits_zeros zero = refl
-digits_zeros (suc k) =
-    let p = pow_pos k in
-    let z : 0 / 2 ^ k % 2 ≡ 0 = omega (arith, p) in
-    rw (z, digits_zeros k) refl
-
 pub golomb_put : (old : List ℕ) (v n z : ℕ) → n ≡ v + 1 → z ≡ log2_of n →
     (old ++ digits z 0) ++ digits (z + 1) n ≡ old ++ exp_golomb v
 golomb_put old v n z e f =
     let k : ℕ = log2_of (v + 1) in
     let g : z ≡ k = f ∙ ap log2_of e in
     rw (g, e) (append_assoc old (digits k 0) (digits (k + 1) (v + 1)) ∙
-    ap (λ w. old ++ (w ++ digits (k + 1) (v + 1))) (digits_zeros k))
+    ap (λ w. old ++ (w ++ digits (k + 1) (v + 1))) (digits-zero k))

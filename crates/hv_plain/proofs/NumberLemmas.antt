@@ -1,26 +1,18 @@
 -- The number that digits make, and what a change of one digit does to it.
 use Rattle.std.proofs.Common.{◌≡◌, ℕ, zero, suc, ◌+◌, ◌-◌, ◌*◌, ◌/◌, ◌%◌, ◌^◌, ◌<◌, ◌≤◌, List, [], ◌∷◌, ◌++◌, length, get_or, set, refl, sym, ap, ap₂, subst, ◌∙◌, arith, pow-add, pow-suc, pow_pos, length-append, length-set, mul-le-mul_right, All}
-use Rattle.std.proofs.lemmas.Nat.{shr_high}
 use Rattle.std.proofs.lemmas.List.Elements.{All-set, All-push}
 use Rattle.hv_stream_model.specs.Bits.{digits, number_of}
 use Rattle.hv_entropy_model.specs.CodeWord.{odd_from}
-use Rattle.hv_stream_model.proofs.DigitLemmas.{digits_low}
-
-pub number_of-append : (xs ys : List ℕ) →
-    number_of (xs ++ ys) ≡ number_of xs * 2 ^ length ys + number_of ys
-number_of-append [] ys = omega arith
-number_of-append (x ∷ xs) ys =
-    let e : 2 ^ length (xs ++ ys) ≡ 2 ^ length xs * 2 ^ length ys =
-    rw (length-append xs ys) (pow-add 2 (length xs) (length ys)) in
-    rw (e, number_of-append xs ys) (omega arith)
+use Rattle.hv_stream_model.specs.BitLaws.{AreBits}
+use Rattle.hv_stream_model.proofs.BitLemmas.{number_of-append, digits-number_of}
 
 -- a zero more doubles it
 pub number_of-zero : (xs : List ℕ) → number_of (xs ++ 0 ∷ []) ≡ number_of xs * 2
 number_of-zero xs = number_of-append xs (0 ∷ []) ∙ omega arith
 
 -- digits are binary
-abbrev pub AreBits : List ℕ → Type 0
-AreBits = All (λ d. d < 2)
+abbrev pub AllBits : List ℕ → Type 0
+AllBits = All (λ d. d < 2)
 
 -- the weight of a place
 abbrev pub weight : List ℕ → ℕ → ℕ
@@ -56,33 +48,19 @@ carried xs i rest total h e =
     let t = split_sum s p in
     rw (b, pow-suc 2 (length xs - 1 - i)) (omega (arith, f, n, t))
 
-pub number_of-below : (xs : List ℕ) → AreBits xs → number_of xs < 2 ^ length xs
-number_of-below [] h = omega arith
-number_of-below (x ∷ xs) h =
-    let b : x < 2 = h 0 0 (omega arith) in
-    let ih = number_of-below xs (λ k d l. h (suc k) d (omega arith)) in
-    let m : (x + 1) * 2 ^ length xs ≤ 2 * 2 ^ length xs =
-    mul-le-mul_right (2 ^ length xs) (omega arith) in
-    rw (pow-suc 2 (length xs)) (omega (arith, ih, m))
+bits_are : (xs : List ℕ) → AllBits xs → AreBits xs
+bits_are [] h = tt
+bits_are (x ∷ xs) h = (h 0 0 (omega arith), bits_are xs (λ k d l. h (suc k) d (omega arith)))
 
 -- the digits of the number that digits make
-pub digits-number_of : (xs : List ℕ) → AreBits xs → digits (length xs) (number_of xs) ≡ xs
-digits-number_of [] h = refl
-digits-number_of (x ∷ xs) h =
-    let b : x < 2 = h 0 0 (omega arith) in
-    let later : AreBits xs = λ k d l. h (suc k) d (omega arith) in
-    let high : (x * 2 ^ length xs + number_of xs) / 2 ^ length xs ≡ x =
-    shr_high x (length xs) (number_of xs) (number_of-below xs later) in
-    let first : (x * 2 ^ length xs + number_of xs) / 2 ^ length xs % 2 ≡ x =
-    rw high (omega arith) in
-    ap₂ (λ (d : ℕ) (ds : List ℕ). d ∷ ds) first
-    (digits_low x (length xs) (number_of xs) ∙ digits-number_of xs later)
+digits_are : (xs : List ℕ) → AllBits xs → digits (length xs) (number_of xs) ≡ xs
+digits_are xs h = digits-number_of xs (bits_are xs h)
 
 -- ---- as a loop over digits keeps them
-pub bits_set : (xs : List ℕ) (i s : ℕ) → AreBits xs → AreBits (set xs i (s % 2))
+pub bits_set : (xs : List ℕ) (i s : ℕ) → AllBits xs → AllBits (set xs i (s % 2))
 bits_set xs i s h = All-set (λ d. d < 2) xs i (s % 2) (omega arith) h
 
-pub bits_push : (xs : List ℕ) → AreBits xs → AreBits (xs ++ 0 ∷ [])
+pub bits_push : (xs : List ℕ) → AllBits xs → AllBits (xs ++ 0 ∷ [])
 bits_push xs h = All-push (λ d. d < 2) xs 0 h (omega arith)
 
 pub power_more : (xs : List ℕ) (old i : ℕ) → number_of xs ≡ old * 2 ^ i →
@@ -125,28 +103,28 @@ half_below low len range skip l h i =
     rw (e, pow-add 2 (len - 9) 1) (omega (arith, h, i))
 
 -- ---- the last digit
-last_digit : (xs : List ℕ) → AreBits xs → 0 < length xs →
+last_digit : (xs : List ℕ) → AllBits xs → 0 < length xs →
     number_of xs % 2 ≡ get_or xs (length xs - 1) 0
 last_digit [] h l = absurd (omega arith)
 last_digit (x ∷ []) h l =
     let b : x < 2 = h 0 0 (omega arith) in
     let e : suc zero - 1 ≡ 0 = omega arith in rw e (omega arith)
 last_digit (x ∷ y ∷ ys) h l =
-    let later : AreBits (y ∷ ys) = λ k d m. h (suc k) d (omega arith) in
+    let later : AllBits (y ∷ ys) = λ k d m. h (suc k) d (omega arith) in
     let ih = last_digit (y ∷ ys) later (omega arith) in
     let e : suc (suc (length ys)) - 1 ≡ suc (suc (length ys) - 1) = omega arith in
     rw (e, pow-suc 2 (length ys)) (rw (← ih) (omega arith))
 
 -- the stop bit: the last digit is put to 1
-pub stop_bit : (xs : List ℕ) → AreBits xs → 0 < length xs →
+pub stop_bit : (xs : List ℕ) → AllBits xs → 0 < length xs →
     set xs (length xs - 1) 1 ≡ digits (length xs) (odd_from (number_of xs))
 stop_bit xs h l =
     let i : ℕ = length xs - 1 in
     let ys : List ℕ = set xs i 1 in
-    let bits : AreBits ys = All-set (λ d. d < 2) xs i 1 (omega arith) h in
+    let bits : AllBits ys = All-set (λ d. d < 2) xs i 1 (omega arith) h in
     let z : length xs - 1 - i ≡ 0 = omega arith in
     let w : weight xs i ≡ 1 = ap (λ (k : ℕ). 2 ^ k) z in
     let n : number_of ys + get_or xs i 0 * 1 ≡ number_of xs + 1 * 1 =
     rw w at (number_of-set xs i 1 (omega arith)) in
     let v : number_of ys ≡ odd_from (number_of xs) = omega (arith, n, last_digit xs h l) in
-    sym (digits-number_of ys bits) ∙ ap₂ (λ (a b : ℕ). digits a b) (length-set xs i 1) v
+    sym (digits_are ys bits) ∙ ap₂ (λ (a b : ℕ). digits a b) (length-set xs i 1) v

@@ -1,1 +1,2 @@
 pub mod PlainFields
+pub mod PlainReading

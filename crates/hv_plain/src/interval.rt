@@ -3,7 +3,7 @@
 ghost use Rattle.std.specs.Prelude.{◌≡◌, ◌+◌, ◌-◌, ◌*◌, ◌^◌, ◌<◌, ◌≤◌, false, cond, length, All, IfOk};
 ghost use Rattle.hv_types.specs.Bins.{context_bin, bypass_bin, terminate_bin};
 ghost use Rattle.hv_stream_model.specs.Bits.{number_of};
-ghost use Rattle.hv_entropy_model.specs.Contexts.{first_variables};
+ghost use Rattle.hv_entropy_model.specs.Contexts.{first_variables, variable_at};
 ghost use Rattle.hv_entropy_model.specs.CodeWord.{Interval, first_interval, shift_of, cut_at, cut_to, advance, word_at};
 
 use crate::bits::shift_of;
@@ -54,6 +54,20 @@ impl PlainInterval {
             range: 510,
             variables,
         })
+    }
+
+    /// The interval's width, 256 to 510.
+    pub fn range(&self) -> u32
+        ensures { result ≡ self.now.range }
+    {
+        self.range
+    }
+
+    /// The variable of a context, as it stands; pStateIdx 0 and valMps 0 where none has its place.
+    pub fn variable(&self, context: Ctx) -> Variable
+        ensures { result ≡ variable_at self.now.variables context }
+    {
+        variable_at(&self.variables, context)
     }
 
     /// The interval after a bin with a context (9.3.4.3.2).

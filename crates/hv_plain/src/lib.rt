@@ -14,9 +14,8 @@ mod reader;
 mod tests;
 mod variables;
 
-pub use contexts::variable_at;
 pub use escaping::escape;
 pub use fields::{Field, bits_of_fields, field_bits};
 pub use interval::PlainInterval;
-pub use reader::{Ended, Reader, adapted};
-pub use variables::{Variable, first_variables};
+pub use reader::{BinReader, Question};
+pub use variables::Variable;

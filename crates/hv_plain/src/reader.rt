@@ -1,11 +1,11 @@
 //! The arithmetic decoder (9.3.4.3), bin by bin.
 
-ghost use Rattle.std.specs.Prelude.{◌≡◌, ◌-◌, ◌*◌, ◌^◌, ◌<◌, ◌≤◌, true, false, length, drop, IfOk, IfSome, MatchOption, MatchResult, None, Some};
+ghost use Rattle.std.specs.Prelude.{◌≡◌, ◌+◌, ◌-◌, ◌*◌, ◌^◌, ◌<◌, ◌≤◌, Bool, not, false, List, length, drop, Option, option_map, IfOk, IfSome};
 ghost use Rattle.hv_types.specs.Bins.{Context, Bypass, Terminate};
 ghost use Rattle.hv_stream_model.specs.Bits.{bits_of};
-ghost use Rattle.hv_entropy_model.specs.Contexts.{first_variables, variable_at, with_variable, next_variable};
-ghost use Rattle.hv_entropy_model.specs.CodeWord.{shift_of};
+ghost use Rattle.hv_entropy_model.specs.Contexts.{ContextVariable, first_variables, variable_at, with_variable, next_variable};
 ghost use Rattle.hv_entropy_model.specs.Oracle.{begin_decoder, renormalize, with_value, decode};
+ghost use Rattle.hv_plain.specs.PlainReading.{question_of, answered, Answers};
 
 use crate::bits::{read_bits, shift_of};
 use crate::contexts::{put_variable, variable_at};
@@ -14,9 +14,20 @@ use hv_types::{Ctx, SliceKind};
 use std::alloc::{AllocError, Global};
 use std::marker::Model;
 
+/// What is asked of the arithmetic decoder.
+#[derive(Clone, Copy)]
+pub enum Question {
+    /// A bin with a context (9.3.4.3.2).
+    Bin(Ctx),
+    /// A bypass bin (9.3.4.3.4).
+    Bypass,
+    /// The bin before terminate, which is true where the slice ends (9.3.4.3.5).
+    End,
+}
+
 /// The decoder within the data of a slice.
 #[derive(Drop)]
-pub struct Reader<'a> {
+pub struct BinReader<'a> {
     bytes: &'a [u8],
     at: usize,
     ivl_curr_range: u32,
@@ -24,7 +35,7 @@ pub struct Reader<'a> {
     variables: Vec<Variable>,
 }
 
-impl<'a> Model for Reader<'a> {
+impl<'a> Model for BinReader<'a> {
     ghost use Rattle.std.specs.Prelude.{◌*◌, ◌^◌, ◌<◌, ◌≤◌, length, drop};
     ghost use Rattle.hv_stream_model.specs.Bits.{bits_of};
     ghost use Rattle.hv_entropy_model.specs.Oracle.{Decoder};
@@ -39,55 +50,18 @@ impl<'a> Model for Reader<'a> {
     } };
 
     ghost invariant = { λ r. (length r.bytes.now < 2 ^ 32) × (r.at ≤ 8 * length r.bytes.now)
-        × (256 ≤ r.ivl_curr_range) × (r.ivl_curr_range ≤ 510)
-        × (r.ivl_offset < r.ivl_curr_range) };
+        × (r.ivl_curr_range ≤ 510) × (r.ivl_offset < r.ivl_curr_range → 256 ≤ r.ivl_curr_range) };
 }
 
-/// The decoder after the bin that ends the slice.
-#[derive(Drop)]
-pub struct Ended<'a> {
-    bytes: &'a [u8],
-    at: usize,
-    ivl_curr_range: u32,
-    ivl_offset: u32,
-    variables: Vec<Variable>,
-}
-
-impl<'a> Model for Ended<'a> {
-    ghost use Rattle.std.specs.Prelude.{◌*◌, ◌^◌, ◌<◌, ◌≤◌, length, drop};
-    ghost use Rattle.hv_stream_model.specs.Bits.{bits_of};
-    ghost use Rattle.hv_entropy_model.specs.Oracle.{Decoder};
-
-    ghost Value = { Decoder };
-
-    ghost view = { λ r. record {
-      bits = drop r.at (bits_of r.bytes.now);
-      ivlCurrRange = r.ivl_curr_range;
-      ivlOffset = r.ivl_offset;
-      variables = r.variables.items;
-    } };
-
-    ghost invariant = { λ r. (length r.bytes.now < 2 ^ 32) × (r.at ≤ 8 * length r.bytes.now) };
-}
-
-impl<'a> Ended<'a> {
-    /// How many bits are left.
-    pub fn bits_left(&self) -> usize
-        ensures { result ≡ length self.now.bits }
-    {
-        8 * self.bytes.len() - self.at
-    }
-}
-
-impl<'a> Reader<'a> {
+impl<'a> BinReader<'a> {
     /// The decoder at the start of a slice's data (9.3.2.5): none where there are fewer than nine
     /// bits, or where they are 510 or 511.
-    pub fn begin(
+    pub fn new(
         alloc: Global,
         bytes: &'a [u8],
         kind: SliceKind,
         qp: u8,
-    ) -> Result<Option<Reader<'a>>, AllocError>
+    ) -> Result<Option<BinReader<'a>>, AllocError>
         requires { length bytes.now < 2 ^ 32 }
         ensures { IfOk result (λ r. r ≡ begin_decoder (first_variables kind qp) (bits_of bytes.now)) }
     {
@@ -96,7 +70,7 @@ impl<'a> Reader<'a> {
             None => Ok(None),
             Some((ivl_offset, at)) => {
                 if ivl_offset < 510 {
-                    Ok(Some(Reader {
+                    Ok(Some(BinReader {
                         bytes,
                         at,
                         ivl_curr_range: 510,
@@ -110,158 +84,149 @@ impl<'a> Reader<'a> {
         }
     }
 
-    /// The decoder after renormalization (9.3.4.3.3), from a range and an offset within it.
-    fn renormalized(
-        bytes: &'a [u8],
-        at: usize,
-        range: u32,
-        offset: u32,
-        variables: Vec<Variable>,
-    ) -> Option<Reader<'a>>
-        requires few { length bytes.now < 2 ^ 32 }
-        requires within { at ≤ 8 * length bytes.now }
-        requires narrow { range ≤ 510 }
-        requires inside { offset < range }
-        ensures { result ≡ renormalize variables.items range offset (drop at (bits_of bytes.now)) }
+    /// The value of the bin that is asked for, which is then read. None where the bits end, or where
+    /// the slice has ended; the reader is then as it was.
+    pub fn answer(&mut self, question: Question) -> Option<bool>
+        ensures { Answers (answered self.old (question_of question)) self.old self.new result }
     {
-        let shift = shift_of(range);
-        match read_bits(bytes, at, shift, offset) {
-            None => None,
-            Some((ivl_offset, at)) => Some(Reader {
-                bytes,
-                at,
-                ivl_curr_range: doubled(range, shift),
-                ivl_offset,
-                variables,
-            }),
+        if self.ivl_offset >= self.ivl_curr_range {
+            return None;
+        }
+        match question {
+            Question::Bin(context) => self.decision(context),
+            Question::Bypass => self.bypass(),
+            Question::End => self.terminate(),
         }
     }
 
-    /// The decoder after a binary decision of this value (9.3.4.3.2.2), from a range and an offset
-    /// within it.
-    fn decided(
-        bytes: &'a [u8],
-        at: usize,
-        range: u32,
-        offset: u32,
-        variables: Vec<Variable>,
-        context: Ctx,
-        value: bool,
-    ) -> Option<(bool, Reader<'a>)>
-        requires few { length bytes.now < 2 ^ 32 }
-        requires within { at ≤ 8 * length bytes.now }
-        requires narrow { range ≤ 510 }
-        requires inside { offset < range }
-        ensures { let before = variable_at variables.items context in
-            let after = with_variable variables.items context (next_variable before value) in
-            result ≡ with_value value (renormalize after range offset (drop at (bits_of bytes.now))) }
+    /// How many bits are left.
+    pub fn bits_left(&self) -> usize
+        ensures { result ≡ length self.now.bits }
     {
-        let adapted = adapted(variables, context, value);
-        match Reader::renormalized(bytes, at, range, offset, adapted) {
-            None => None,
-            Some(reader) => Some((value, reader)),
-        }
+        8 * self.bytes.len() - self.at
     }
 
-    /// A bin with a context, and the decoder after it (9.3.4.3.2); none where the bits end.
-    pub fn bin(self, context: Ctx) -> Option<(bool, Reader<'a>)>
-        ensures { result ≡ decode self.entry (Context context) }
+    /// A bin with a context (9.3.4.3.2).
+    fn decision(&mut self, context: Ctx) -> Option<bool>
+        requires { self.old.ivlOffset < self.old.ivlCurrRange }
+        ensures { Answers (decode self.old (Context context)) self.old self.new result }
     {
-        let Reader {
-            bytes,
-            at,
-            ivl_curr_range,
-            ivl_offset,
-            variables,
-        } = self;
-        let variable = variable_at(&variables, context);
-        let lps = lps_width(variable, ivl_curr_range);
-        let mps = ivl_curr_range - lps;
+        let variable = variable_at(&self.variables, context);
+        let lps = lps_width(variable, self.ivl_curr_range);
+        let mps = self.ivl_curr_range - lps;
         let val_mps = variable.val_mps();
-        if ivl_offset < mps {
-            Reader::decided(bytes, at, mps, ivl_offset, variables, context, val_mps)
+        if self.ivl_offset < mps {
+            self.decide(mps, self.ivl_offset, context, val_mps)
         } else {
-            Reader::decided(
-                bytes,
-                at,
-                lps,
-                ivl_offset - mps,
-                variables,
-                context,
-                !val_mps,
-            )
+            self.decide(lps, self.ivl_offset - mps, context, !val_mps)
         }
     }
 
-    /// A bypass bin, and the decoder after it (9.3.4.3.4); none where the bits end.
-    pub fn bypass(self) -> Option<(bool, Reader<'a>)>
-        ensures { result ≡ decode self.entry Bypass }
+    /// A binary decision of this value (9.3.4.3.2.2), from a range and an offset within it.
+    fn decide(&mut self, range: u32, offset: u32, context: Ctx, value: bool) -> Option<bool>
+        requires narrow { range ≤ 510 }
+        requires inside { offset < range }
+        ensures { let before = variable_at self.old.variables context in
+            let after = with_variable self.old.variables context (next_variable before value) in
+            Answers (with_value value (renormalize after range offset self.old.bits))
+            self.old self.new result }
     {
-        let Reader {
-            bytes,
-            at,
-            ivl_curr_range,
-            ivl_offset,
-            variables,
-        } = self;
-        match read_bits(bytes, at, 1, ivl_offset) {
+        match renormalized(self.bytes, self.at, range, offset) {
+            None => None,
+            Some(place) => {
+                let variable = variable_at(&self.variables, context);
+                put_variable(&mut self.variables, context, next_variable(variable, value));
+                self.at = place.at;
+                self.ivl_curr_range = place.range;
+                self.ivl_offset = place.offset;
+                Some(value)
+            }
+        }
+    }
+
+    /// A bypass bin (9.3.4.3.4).
+    fn bypass(&mut self) -> Option<bool>
+        requires { self.old.ivlOffset < self.old.ivlCurrRange }
+        ensures { Answers (decode self.old Bypass) self.old self.new result }
+    {
+        match read_bits(self.bytes, self.at, 1, self.ivl_offset) {
             None => None,
             Some((doubled, at)) => {
-                let value = doubled >= ivl_curr_range;
-                let ivl_offset = if value {
-                    doubled - ivl_curr_range
+                let value = doubled >= self.ivl_curr_range;
+                self.at = at;
+                self.ivl_offset = if value {
+                    doubled - self.ivl_curr_range
                 } else {
                     doubled
                 };
-                Some((
-                    value,
-                    Reader {
-                        bytes,
-                        at,
-                        ivl_curr_range,
-                        ivl_offset,
-                        variables,
-                    },
-                ))
+                Some(value)
             }
         }
     }
 
-    /// A bin before terminate (9.3.4.3.5): `Ok` with the decoder after it where it is false, `Err`
-    /// where it is true and the slice ends; none where the bits end.
-    pub fn terminate(self) -> Option<Result<Reader<'a>, Ended<'a>>>
-        ensures { MatchOption result (decode self.entry Terminate ≡ None) (λ r.
-            MatchResult r
-            (λ d. decode self.entry Terminate ≡ Some (false, d))
-            (λ d. decode self.entry Terminate ≡ Some (true, d))) }
+    /// A bin before terminate (9.3.4.3.5).
+    fn terminate(&mut self) -> Option<bool>
+        requires { self.old.ivlOffset < self.old.ivlCurrRange }
+        ensures { Answers (decode self.old Terminate) self.old self.new result }
     {
-        let Reader {
-            bytes,
-            at,
-            ivl_curr_range,
-            ivl_offset,
-            variables,
-        } = self;
-        let range = ivl_curr_range - 2;
-        if ivl_offset < range {
-            match Reader::renormalized(bytes, at, range, ivl_offset, variables) {
-                None => None,
-                Some(reader) => Some(Ok(reader)),
+        let range = self.ivl_curr_range - 2;
+        if self.ivl_offset >= range {
+            self.ivl_curr_range = range;
+            return Some(true);
+        }
+        match renormalized(self.bytes, self.at, range, self.ivl_offset) {
+            None => None,
+            Some(place) => {
+                self.at = place.at;
+                self.ivl_curr_range = place.range;
+                self.ivl_offset = place.offset;
+                Some(false)
             }
-        } else {
-            Some(Err(Ended {
-                bytes,
-                at,
-                ivl_curr_range: range,
-                ivl_offset,
-                variables,
-            }))
         }
     }
 }
 
+/// Where a decoder stands: how many bits it has read, its range and its offset.
+#[derive(Clone, Copy)]
+struct Place {
+    at: usize,
+    range: u32,
+    offset: u32,
+}
+
+/// Where the decoder stands after renormalization (9.3.4.3.3), from a range and an offset within it;
+/// none where the bits end.
+fn renormalized(bytes: &[u8], at: usize, range: u32, offset: u32) -> Option<Place>
+    requires few { length bytes.now < 2 ^ 32 }
+    requires within { at ≤ 8 * length bytes.now }
+    requires narrow { range ≤ 510 }
+    requires inside { offset < range }
+    ensures value { (variables : List ContextVariable) →
+        renormalize variables range offset (drop at (bits_of bytes.now))
+        ≡ option_map (λ r. record {
+          bits = drop r.at (bits_of bytes.now);
+          ivlCurrRange = r.range;
+          ivlOffset = r.offset;
+          variables = variables;
+        }) result }
+    ensures within { IfSome result (λ r. r.at ≤ 8 * length bytes.now) }
+    ensures wide { IfSome result (λ r. 256 ≤ r.range) }
+    ensures narrow { IfSome result (λ r. r.range ≤ 510) }
+    ensures inside { IfSome result (λ r. r.offset < r.range) }
+{
+    let shift = shift_of(range);
+    match read_bits(bytes, at, shift, offset) {
+        None => None,
+        Some((offset, at)) => Some(Place {
+            at,
+            range: doubled(range, shift),
+            offset,
+        }),
+    }
+}
+
 /// A width doubled so often.
-pub fn doubled(width: u32, times: u32) -> u32
+pub(crate) fn doubled(width: u32, times: u32) -> u32
     requires few { times ≤ 8 }
     requires small { width * 2 ^ times < 2 ^ 20 }
     ensures { result ≡ width * 2 ^ times }
@@ -270,7 +235,7 @@ pub fn doubled(width: u32, times: u32) -> u32
 }
 
 /// The variables after a context's bin of this value (9.3.4.3.2.2).
-pub fn adapted(variables: Vec<Variable>, context: Ctx, value: bool) -> Vec<Variable>
+pub(crate) fn adapted(variables: Vec<Variable>, context: Ctx, value: bool) -> Vec<Variable>
     ensures { let before = variable_at variables.items context in
         result.items ≡ with_variable variables.items context (next_variable before value) }
 {

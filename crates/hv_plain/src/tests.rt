@@ -1,35 +1,24 @@
 //! What the arithmetic encoder writes is what the plain interval gives, and the plain decoder reads
 //! its bins back. The bytes come from outside: they were computed by whole numbers never cut.
 
-use crate::{
-    Ended, Field, PlainInterval, Reader, adapted, bits_of_fields, escape, field_bits,
-    first_variables, variable_at,
-};
+use crate::{BinReader, Field, PlainInterval, Question, bits_of_fields, escape, field_bits};
 use hv_cabac::Encoder;
 use hv_types::{BinSink, Ctx, CtxTable, NoMemory, SliceKind};
 use std::alloc::{AllocError, Global};
 use std::process::Abort;
 use std::test::Fail;
 
-/// What is asked of the decoder.
-#[derive(Clone, Copy)]
-enum Asked {
-    Context(CtxTable, u8),
-    Bypass,
-    Terminate,
-}
-
 /// A bin before which the slice goes on.
-type Bin = (Asked, bool);
+type Bin = (Question, bool);
 
 /// The bytes that the encoder makes of these bins and the end of the slice.
 fn written(alloc: Global, bins: &[Bin]) -> Result<Vec<u8>, NoMemory> {
     let mut encoder = Encoder::new(alloc, SliceKind::I, 26);
-    for (asked, value) in bins {
-        match *asked {
-            Asked::Context(table, index) => encoder.bin(Ctx { table, index }, *value),
-            Asked::Bypass => encoder.bypass(*value),
-            Asked::Terminate => encoder.terminate(*value),
+    for (question, value) in bins {
+        match *question {
+            Question::Bin(context) => encoder.bin(context, *value),
+            Question::Bypass => encoder.bypass(*value),
+            Question::End => encoder.terminate(*value),
         }
     }
     encoder.terminate(true);
@@ -37,11 +26,11 @@ fn written(alloc: Global, bins: &[Bin]) -> Result<Vec<u8>, NoMemory> {
 }
 
 /// The interval after one more bin.
-fn put(interval: PlainInterval, asked: Asked, value: bool) -> Result<PlainInterval, AllocError> {
-    match asked {
-        Asked::Context(table, index) => interval.bin(Ctx { table, index }, value),
-        Asked::Bypass => interval.bypass(value),
-        Asked::Terminate => interval.go_on(),
+fn put(interval: PlainInterval, bin: Bin) -> Result<PlainInterval, AllocError> {
+    match bin.0 {
+        Question::Bin(context) => interval.bin(context, bin.1),
+        Question::Bypass => interval.bypass(bin.1),
+        Question::End => interval.go_on(),
     }
 }
 
@@ -62,45 +51,26 @@ fn bytes_of(alloc: Global, bits: &[u8]) -> Result<Vec<u8>, AllocError> {
 /// The bytes of the plain code word of these bins and the end of the slice.
 fn plain(alloc: Global, bins: &[Bin]) -> Result<Vec<u8>, AllocError> {
     let mut interval = PlainInterval::first(alloc, SliceKind::I, 26)?;
-    for (asked, value) in bins {
-        interval = put(interval, *asked, *value)?;
+    for bin in bins {
+        interval = put(interval, *bin)?;
     }
     bytes_of(alloc, &interval.word())
 }
 
-/// Reads a bin before which the slice goes on.
-fn read<'a>(reader: Reader<'a>, asked: Asked) -> Option<(bool, Reader<'a>)> {
-    match asked {
-        Asked::Context(table, index) => reader.bin(Ctx { table, index }),
-        Asked::Bypass => reader.bypass(),
-        Asked::Terminate => match reader.terminate() {
-            Some(Ok(next)) => Some((false, next)),
-            _ => None,
-        },
-    }
-}
-
-/// Reads the bin that ends the slice.
-fn read_end<'a>(reader: Reader<'a>) -> Option<Ended<'a>> {
-    match reader.terminate() {
-        Some(Err(ended)) => Some(ended),
-        _ => None,
-    }
-}
-
-/// Reads these bins and the end of the slice, after which only zeros to the byte are left.
+/// Reads these bins and the end of the slice, after which only zeros to the byte are left, and
+/// nothing more is answered.
 fn check_read(rt: &impl Abort, alloc: Global, bytes: &[u8], bins: &[Bin]) -> Result<(), Fail> {
     assert!(rt; bytes.len() < 100_000);
-    let mut reader = Reader::begin(alloc, bytes, SliceKind::I, 26)?.ok_or("begins")?;
-    for (asked, want) in bins {
-        let (value, next) = read(reader, *asked).ok_or("a bin")?;
-        assert_eq!(rt; value, *want);
-        reader = next;
+    let mut reader = BinReader::new(alloc, bytes, SliceKind::I, 26)?.ok_or("begins")?;
+    for (question, want) in bins {
+        assert_eq!(rt; reader.answer(*question), Some(*want));
     }
-    let left = read_end(reader).ok_or("the end")?.bits_left();
+    assert_eq!(rt; reader.answer(Question::End), Some(true));
+    assert_eq!(rt; reader.answer(Question::Bypass), None);
+    let left = reader.bits_left();
     assert!(rt; left < 8);
     let last = bytes.last().copied().unwrap_or(1);
-    assert_eq!(rt; u32::from(last) % (1 << left), 0);
+    assert_eq!(rt; u32::from(last) % (2 << left), 1 << left);
     Ok(())
 }
 
@@ -114,40 +84,32 @@ fn checked(rt: &impl Abort, alloc: Global, bins: &[Bin]) -> Result<Vec<u8>, Fail
 
 #[test]
 fn six_bypass_bins(rt: HostRuntime) -> Result<(), Fail> {
-    let bins = [false, true, false, false, false, true].map(|value| (Asked::Bypass, value));
+    let bins = [false, true, false, false, false, true].map(|value| (Question::Bypass, value));
     let bytes = checked(&rt, rt.alloc(), &bins)?;
     assert_eq!(rt; bytes.as_slice(), [0x47, 0xB6].as_slice());
     Ok(())
 }
 
-/// The bins of a grey block of 64x64 before the end of its slice.
-const GREY_BINS: [Bin; 13] = [
-    (Asked::Context(CtxTable::SaoType, 0), false),
-    (Asked::Context(CtxTable::SaoType, 0), false),
-    (Asked::Context(CtxTable::Split, 0), false),
-    (Asked::Context(CtxTable::PrevIntra, 0), true),
-    (Asked::Bypass, true),
-    (Asked::Bypass, false),
-    (Asked::Context(CtxTable::ChromaMode, 0), false),
-    (Asked::Context(CtxTable::CbfChroma, 0), false),
-    (Asked::Context(CtxTable::CbfChroma, 0), false),
-    (Asked::Context(CtxTable::CbfLuma, 0), false),
-    (Asked::Context(CtxTable::CbfLuma, 0), false),
-    (Asked::Context(CtxTable::CbfLuma, 0), false),
-    (Asked::Context(CtxTable::CbfLuma, 0), false),
-];
-
+/// A word whose bits end: what isn't answered isn't read.
 #[test]
-fn grey_block(rt: HostRuntime) -> Result<(), Fail> {
-    let bytes = checked(&rt, rt.alloc(), &GREY_BINS)?;
-    assert_eq!(rt; bytes.as_slice(), [0xE8, 0x73, 0x7F, 0x80].as_slice());
+fn bits_end(rt: HostRuntime) -> Result<(), Fail> {
+    assert!(rt; BinReader::new(rt.alloc(), &[0xFF, 0x80], SliceKind::I, 26)?.is_none());
+    assert!(rt; BinReader::new(rt.alloc(), &[0x47], SliceKind::I, 26)?.is_none());
+    let bytes = [0x47, 0xB6];
+    let mut reader = BinReader::new(rt.alloc(), &bytes, SliceKind::I, 26)?.ok_or("begins")?;
+    for want in [false, true, false, false, false, true, true] {
+        assert_eq!(rt; reader.answer(Question::Bypass), Some(want));
+    }
+    assert_eq!(rt; reader.bits_left(), 0);
+    assert_eq!(rt; reader.answer(Question::Bypass), None);
+    assert_eq!(rt; reader.answer(Question::Bypass), None);
     Ok(())
 }
 
 /// The 120 digits of ⌊2^128 / 510⌋ + 1 as bypass bins, and sixteen zeros: the low end passes a power
 /// of two late, so that a carry runs back over more than ten bytes.
 #[test]
-fn long_carry_is_kept(rt: HostRuntime) -> Result<(), Fail> {
+fn long_carry_comes_back(rt: HostRuntime) -> Result<(), Fail> {
     let mut bins = Vec::new(rt.alloc());
     for i in 0..136u32 {
         let byte: u8 = if i < 112 {
@@ -157,7 +119,7 @@ fn long_carry_is_kept(rt: HostRuntime) -> Result<(), Fail> {
         } else {
             0
         };
-        bins.push((Asked::Bypass, (byte >> (7 - i % 8)) & 1 == 1))?;
+        bins.push((Question::Bypass, (byte >> (7 - i % 8)) & 1 == 1))?;
     }
     let bytes = checked(&rt, rt.alloc(), &bins)?;
     let want = [
@@ -167,78 +129,92 @@ fn long_carry_is_kept(rt: HostRuntime) -> Result<(), Fail> {
     Ok(())
 }
 
-/// A bin of a long list, which leads its variables through all states.
-fn long_list(k: u32) -> Bin {
-    if k % 16 == 15 {
-        (Asked::Terminate, false)
-    } else if k % 4 == 3 {
-        (Asked::Bypass, (k / 7).wrapping_mul(k) / 7 % 2 == 1)
+/// The context that the list of all widths is about.
+const SIG: Ctx = Ctx {
+    table: CtxTable::Sig,
+    index: 0,
+};
+
+/// The next bin on the way to the less probable value in a state and a quarter of the range: the
+/// state is reached by bins of the context, and the quarter by bins before terminate, each of which
+/// takes 2 from the range.
+fn bin_towards(interval: &PlainInterval, state: u8, quarter: u32) -> Bin {
+    let variable = interval.variable(SIG);
+    let now = variable.p_state_idx();
+    if now < state {
+        (Question::Bin(SIG), variable.val_mps())
+    } else if now > state || interval.range() / 64 % 4 == quarter {
+        (Question::Bin(SIG), !variable.val_mps())
     } else {
-        let run = k / 400 % 2 == 1;
-        (
-            Asked::Context(CtxTable::Sig, (k / 4000 % 5) as u8),
-            run != (k % 97 == 0),
-        )
+        (Question::End, false)
     }
 }
 
-#[test]
-fn long_list_visits_all_states(rt: HostRuntime) -> Result<(), Fail> {
-    let mut variables = first_variables(rt.alloc(), SliceKind::I, 26)?;
-    let mut seen = [false; 64];
-    for k in 0..20_000 {
-        if let (Asked::Context(table, index), value) = long_list(k) {
-            let context = Ctx { table, index };
-            let state = variable_at(&variables, context).p_state_idx();
-            seen[usize::from(state % 64)] = true;
-            variables = adapted(variables, context, value);
+/// Notes where a bin of the context has the less probable value, or the more probable one.
+fn note(interval: &PlainInterval, bin: Bin, less: &mut [[bool; 4]; 64], more: &mut [bool; 64]) {
+    let variable = interval.variable(SIG);
+    let state = usize::from(variable.p_state_idx() % 64);
+    if let Question::Bin(_) = bin.0 {
+        if bin.1 == variable.val_mps() {
+            more[state] = true;
+        } else {
+            less[state][(interval.range() / 64 % 4) as usize] = true;
+        }
+    }
+}
+
+/// Bins by which a context has the less probable value in each state from 0 to 62 and each quarter
+/// of the range, and the more probable value in each state.
+fn all_widths(rt: &impl Abort, alloc: Global) -> Result<Vec<Bin>, Fail> {
+    let mut less = [[false; 4]; 64];
+    let mut more = [false; 64];
+    let mut interval = PlainInterval::first(alloc, SliceKind::I, 26)?;
+    let mut bins = Vec::new(alloc);
+    for target in 0..252u8 {
+        let (state, quarter) = (target / 4, 3 - target % 4);
+        for _ in 0..250 {
+            if less[usize::from(state)][usize::from(quarter)] {
+                break;
+            }
+            let bin = bin_towards(&interval, state, u32::from(quarter));
+            note(&interval, bin, &mut less, &mut more);
+            bins.push(bin)?;
+            interval = put(interval, bin)?;
+        }
+        assert!(rt;
+            less[usize::from(state)][usize::from(quarter)],
+            "{state}, {quarter}"
+        );
+    }
+    for _ in 0..63 {
+        let bin = (Question::Bin(SIG), interval.variable(SIG).val_mps());
+        if !more[62] {
+            note(&interval, bin, &mut less, &mut more);
+            bins.push(bin)?;
+            interval = put(interval, bin)?;
         }
     }
     for state in 0..63 {
-        assert!(rt; seen[state], "state {state}");
+        assert!(rt; more[state], "{state}");
     }
-    Ok(())
+    Ok(bins)
 }
 
 #[test]
-fn long_list_is_written_and_read(rt: HostRuntime) -> Result<(), Fail> {
-    let mut bins = Vec::new(rt.alloc());
-    for k in 0..20_000 {
-        bins.push(long_list(k))?;
-    }
+fn all_widths_are_written_and_read(rt: HostRuntime) -> Result<(), Fail> {
+    let bins = all_widths(&rt, rt.alloc())?;
+    assert_eq!(rt; bins.len(), 10_995);
     let bytes = checked(&rt, rt.alloc(), &bins)?;
-    assert_eq!(rt; bytes.len(), 898);
-    let first = [0xC2, 0x6F, 0xC3, 0x39, 0x12, 0x7E, 0x27, 0x77];
-    let last = [0xBA, 0xF0, 0x88, 0x68, 0xFC, 0xF6, 0x21, 0x20];
+    assert_eq!(rt; bytes.len(), 160);
+    let first = [0xFE, 0xFE, 0x9E, 0x20, 0x88, 0x7C, 0x77, 0xCE];
+    let last = [0xBB, 0x7F, 0x4E, 0x7D, 0x91, 0x73, 0x76, 0x54];
     assert_eq!(rt; &bytes[..8], first.as_slice());
-    assert_eq!(rt; &bytes[890..], last.as_slice());
+    assert_eq!(rt; &bytes[152..], last.as_slice());
     let mut sum = 0u64;
     for byte in &bytes {
         sum = sum.saturating_add(u64::from(*byte));
     }
-    assert_eq!(rt; sum, 121_518);
-    Ok(())
-}
-
-/// Where variables start: kind, table, place in it, quantiser, and pStateIdx and valMps.
-const STARTS: [(SliceKind, CtxTable, u8, u8, u8, bool); 6] = [
-    (SliceKind::P, CtxTable::PrevIntra, 0, 26, 0, true),
-    (SliceKind::I, CtxTable::LastX, 0, 0, 32, true),
-    (SliceKind::I, CtxTable::ChromaMode, 0, 51, 55, false),
-    (SliceKind::I, CtxTable::Greater1, 21, 51, 23, true),
-    (SliceKind::P, CtxTable::CodedSub, 2, 0, 24, true),
-    (SliceKind::I, CtxTable::SaoType, 0, 37, 18, true),
-];
-
-#[test]
-fn variables_start(rt: HostRuntime) -> Result<(), Fail> {
-    for (kind, table, index, qp, state, mps) in STARTS {
-        let variables = first_variables(rt.alloc(), kind, qp)?;
-        assert_eq!(rt; variables.len(), 140);
-        let variable = variable_at(&variables, Ctx { table, index });
-        assert_eq!(rt; variable.p_state_idx(), state, "at {qp}");
-        assert_eq!(rt; variable.val_mps(), mps, "at {qp}");
-    }
+    assert_eq!(rt; sum, 21_821);
     Ok(())
 }
 

@@ -1,6 +1,6 @@
 -- What is computed once over the tables of the arithmetic decoder (9.3.4.3.2): bounds, the rule behind
 -- them, and the table of the states after a bin.
-use Rattle.std.proofs.Common.{◌≡◌, ℕ, ◌+◌, ◌*◌, ◌%◌, ◌<◌, ◌≤◌, Bool, true, false, cond, ◌&&◌, eqb, ltb, List, [], get_or, slice_index_or, refl, arith, eqb-true, ltb-true, sym}
+use Rattle.std.proofs.Common.{◌≡◌, ℕ, ◌+◌, ◌*◌, ◌<◌, Bool, true, false, cond, ◌&&◌, eqb, ltb, List, get_or, slice_index_or, refl, arith, eqb-true, ltb-true, sym}
 use Rattle.std.proofs.lemmas.Bool.{and_parts}
 use Rattle.std.proofs.lemmas.Grind.{get_or_default_zero}
 use Rattle.hv_lemmas.proofs.ComputedLemmas.{all_below, holds_below}

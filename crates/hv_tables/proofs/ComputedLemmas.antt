@@ -1,5 +1,5 @@
 -- What is computed once over a whole table holds of each of its entries.
-use Rattle.std.proofs.Common.{◌≡◌, ℕ, ◌<◌, Bool, true, List, [], ℤ, pos, slice_index_or}
+use Rattle.std.proofs.Common.{◌≡◌, ℕ, Bool, true, List, [], ℤ, pos, slice_index_or}
 use Rattle.hv_lemmas.proofs.ComputedLemmas.{all_below, holds_below}
 use Rattle.hv_tables.specs.Tables.{HasEntries}
 use Rattle.std.specs.Ordering.{int_eq}

@@ -1,6 +1,6 @@
 -- How the tables of the arithmetic decoder (9.3.4.3.2) come about. The standard prints their numbers
 -- alone. The rule here is this project's own: it gives every number but those that are named.
-use Rattle.std.specs.Prelude.{◌≡◌, ℕ, zero, suc, ◌+◌, ◌-◌, ◌*◌, ◌/◌, ◌^◌, ◌<◌, ◌≤◌, Bool, cond, nat_eq, nat_lt, min, max, ◌&&◌, ◌||◌, List, [], slice_index_or}
+use Rattle.std.specs.Prelude.{◌≡◌, ℕ, zero, suc, ◌+◌, ◌-◌, ◌*◌, ◌/◌, ◌^◌, ◌<◌, ◌≤◌, Bool, cond, nat_eq, nat_lt, min, max, ◌&&◌, ◌||◌, [], slice_index_or}
 use Rattle.hv_tables.specs.ArithmeticTables.{rangeTabLps, transIdxLps}
 
 -- A pStateIdx stands for a probability of the less probable value. It is a half in state 0, and falls

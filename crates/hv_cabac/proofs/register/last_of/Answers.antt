@@ -7,4 +7,4 @@ returns-clause-small c =
     let a = c.args in
     let small = last_small a.low a.range a.bits a.pad c.requires.wide c.requires.small in
     let few = below_25 (a.bits + a.pad) (omega arith) in
-    rw c.from.ensures (omega (arith, small, few))
+    rw c.last_digits.ensures.value (omega (arith, small, few))

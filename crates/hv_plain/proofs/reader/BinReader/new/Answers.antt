@@ -3,7 +3,7 @@ use Rattle.hv_stream_model.specs.Bits.{bits_of}
 use Rattle.hv_entropy_model.specs.Contexts.{first_variables}
 use Rattle.hv_entropy_model.specs.Oracle.{if_in_range}
 use Rattle.hv_plain.proofs.PlainLemmas.{begun_is, not_begun_is}
-use Rattle.hv_plain.proofs.reader.Reader.begin.Goals as goal
+use Rattle.hv_plain.proofs.reader.BinReader.new.Goals as goal
 
 pub returns-in-None : goal.returns-in-None
 returns-in-None c =

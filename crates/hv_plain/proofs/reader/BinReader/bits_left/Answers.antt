@@ -1,6 +1,6 @@
 use Rattle.std.proofs.Common.{ap, ◌∙◌, length}
 use Rattle.hv_plain.proofs.PlainLemmas.{length_left}
-use Rattle.hv_plain.proofs.reader.Ended.bits_left.Goals as goal
+use Rattle.hv_plain.proofs.reader.BinReader.bits_left.Goals as goal
 
 pub returns : goal.returns
 returns c =

@@ -19,4 +19,5 @@ pub record IsOrder (count levels : ℕ) : Type 0 where
 
 -- .. for each count and each number of levels
 abbrev pub AreOrders : Type 0
-AreOrders = (count levels : ℕ) → 1 ≤ count → count ≤ 64 → levels ≤ most_levels → IsOrder count levels
+AreOrders =
+    (count levels : ℕ) → 1 ≤ count → count ≤ 64 → levels ≤ most_levels → IsOrder count levels

@@ -3,6 +3,7 @@ use Rattle.std.proofs.Common.{◌≡◌, ℕ, zero, suc, ◌+◌, ◌-◌, ◌*�
 use Rattle.std.proofs.lemmas.List.{append_assoc, append-nil}
 use Rattle.std.proofs.lemmas.Bool.Decides.{nat_tests}
 use Rattle.hv_lemmas.proofs.ComparisonLemmas.{lt_not_below}
+use Rattle.hv_types.specs.Configuration.{most_levels}
 use Rattle.hv_group_model.specs.Structure.{Coded, coded, halves, blocks, multiples, anchors}
 
 abbrev pub between : ℕ → ℕ → ℕ → ℕ → List Coded
@@ -98,7 +99,7 @@ anchors_first count levels some =
 
 -- ---- the walk over the blocks
 
-pub step_is : (levels : ℕ) → levels ≤ 3 → 1 * 2 ^ levels % 256 ≡ 2 ^ levels
+pub step_is : (levels : ℕ) → levels ≤ most_levels → 1 * 2 ^ levels % 256 ≡ 2 ^ levels
 step_is zero few = refl
 step_is (suc zero) few = refl
 step_is (suc (suc zero)) few = refl

@@ -3,6 +3,7 @@ use Rattle.std.proofs.Common.{◌≡◌, ℕ, ◌+◌, ◌<◌, Bool, true, cond
 use Rattle.std.specs.Prelude.{◌⊎◌}
 use Rattle.std.proofs.lemmas.Bool.{and_parts, cases_lt, ltb-true}
 use Rattle.std.specs.List.{list_all}
+use Rattle.hv_types.specs.Configuration.{most_levels}
 use Rattle.hv_group_model.specs.Structure.{Coded, coded, coding, place_in, falling, rising}
 use Rattle.hv_decision.specs.declared.row.Life.{Life}
 use Rattle.hv_decision.specs.Sets.{life_in, is_kept_at}
@@ -29,7 +30,7 @@ is_sound_order count levels order =
 
 unfoldable pub is_sound_count : ℕ → Bool
 is_sound_count count =
-    list_all (λ levels. is_sound_order count levels (coding count levels)) (rising 4 0)
+    list_all (λ levels. is_sound_order count levels (coding count levels)) (rising (most_levels + 1) 0)
 
 low : list_all is_sound_count (rising 40 1) ≡ true
 unfolding is_sound_count is_sound_order kept_count
@@ -55,11 +56,11 @@ each_count p count low high some most (inl few) = in_range p count 1 40 low some
 each_count p count low high some most (inr many) = in_range p count 41 24 high many (omega arith)
 
 -- a test that holds of each number of levels
-pub each_levels : (p : ℕ → Bool) (levels : ℕ) → list_all p (rising 4 0) ≡ true → levels ≤ 3 →
+pub each_levels : (p : ℕ → Bool) (levels : ℕ) → list_all p (rising (most_levels + 1) 0) ≡ true → levels ≤ most_levels →
     p levels ≡ true
-each_levels p levels all few = in_range p levels 0 4 all (omega arith) (omega arith)
+each_levels p levels all few = in_range p levels 0 (most_levels + 1) all (omega arith) (omega arith)
 
-levels_at : (count levels : ℕ) → is_sound_count count ≡ true → levels ≤ 3 →
+levels_at : (count levels : ℕ) → is_sound_count count ≡ true → levels ≤ most_levels →
     is_sound_order count levels (coding count levels) ≡ true
 unfolding is_sound_count
 levels_at count levels all few =
@@ -90,14 +91,14 @@ sound_parts count levels order e =
       kept_few = four.1;
     }
 
-pub sound : (count levels : ℕ) → 1 ≤ count → count ≤ 64 → levels ≤ 3 → Sound count levels (coding count levels)
+pub sound : (count levels : ℕ) → 1 ≤ count → count ≤ 64 → levels ≤ most_levels → Sound count levels (coding count levels)
 sound count levels some most few =
     sound_parts count levels (coding count levels)
     (levels_at count levels (each_count is_sound_count count low high some most (cases_lt count 41)) few)
 
 -- ---- what follows
 
-pub length-coding : (count levels : ℕ) → 1 ≤ count → count ≤ 64 → levels ≤ 3 → length (coding count levels) ≡ count
+pub length-coding : (count levels : ℕ) → 1 ≤ count → count ≤ 64 → levels ≤ most_levels → length (coding count levels) ≡ count
 length-coding count levels some most few = (sound count levels some most few).long
 
 lives_below : (p : Life → Bool) (order : List Coded) (n k : ℕ) →
@@ -105,13 +106,13 @@ lives_below : (p : Life → Bool) (order : List Coded) (n k : ℕ) →
 lives_below p order n k all below =
     below_all (λ j. p (life_in order j)) n k (all-map p (life_in order) (falling n) all) below
 
-pub place_below : (count levels k : ℕ) → 1 ≤ count → count ≤ 64 → levels ≤ 3 → k < count →
+pub place_below : (count levels k : ℕ) → 1 ≤ count → count ≤ 64 → levels ≤ most_levels → k < count →
     place_in (coding count levels) k < count
 place_below count levels k some most few below =
     ltb-true _ _ (lives_below (λ life. nat_lt life.place count) (coding count levels) count k
     (sound count levels some most few).places below)
 
-pub kept-le : (count levels place : ℕ) → 1 ≤ count → count ≤ 64 → levels ≤ 3 → place < count →
+pub kept-le : (count levels place : ℕ) → 1 ≤ count → count ≤ 64 → levels ≤ most_levels → place < count →
     kept_count place (map (life_in (coding count levels)) (falling count)) ≤ levels + 1
 kept-le count levels place some most few below =
     let test : ℕ → Bool =
@@ -120,7 +121,7 @@ kept-le count levels place some most few below =
     ltb-true _ _ (below_all test count place (sound count levels some most few).kept_few below) in
     omega arith
 
-pub depth-le : (count levels place : ℕ) → 1 ≤ count → count ≤ 64 → levels ≤ 3 → place < count →
+pub depth-le : (count levels place : ℕ) → 1 ≤ count → count ≤ 64 → levels ≤ most_levels → place < count →
     (slice_index_or (coding count levels) place (coded 0 0 [])).depth ≤ levels + 1
 depth-le count levels place some most few below =
     let s = sound count levels some most few in
@@ -130,7 +131,7 @@ depth-le count levels place some most few below =
     (omega (arith, long))) in
     omega arith
 
-pub picture-lt : (count levels place : ℕ) → 1 ≤ count → count ≤ 64 → levels ≤ 3 → place < count →
+pub picture-lt : (count levels place : ℕ) → 1 ≤ count → count ≤ 64 → levels ≤ most_levels → place < count →
     (slice_index_or (coding count levels) place (coded 0 0 [])).picture < count
 picture-lt count levels place some most few below =
     let s = sound count levels some most few in

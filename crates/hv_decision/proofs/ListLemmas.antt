@@ -1,5 +1,5 @@
 -- A test of all elements of a list that a function made.
-use Rattle.std.proofs.Common.{◌≡◌, ap₂, ◌&&◌, Bool, true, List, [], ◌∷◌, map}
+use Rattle.std.proofs.Common.{◌≡◌, refl, ap₂, ◌&&◌, Bool, true, List, [], ◌∷◌, map}
 use Rattle.std.specs.List.{list_all}
 use Rattle.std.proofs.lemmas.Bool.{and_parts}
 

@@ -1,6 +1,7 @@
 -- What the table of a structure says.
 use Rattle.std.proofs.Common.{◌≡◌, ℕ, ◌+◌, ◌<◌, ◌≤◌, ◌∙◌, sym, ap, subst, List, [], length, map, slice_index_or, arith}
 use Rattle.std.proofs.lemmas.List.{get_or-map, length-map}
+use Rattle.hv_types.specs.Configuration.{most_levels}
 use Rattle.hv_group_model.specs.Structure.{Coded, coded, coding, place_in, rising, picture_at, reference_set}
 use Rattle.hv_decision.specs.declared.coded.CodedPicture.{CodedPicture}
 use Rattle.hv_decision.specs.declared.row.Row.{Row}
@@ -17,7 +18,7 @@ pub table_of : {a b : Structure} {order : List ℕ} {rows : List Row} → a ≡ 
 table_of {order = order} {rows = rows} e table = subst (λ s. IsTable s order rows) e table
 
 module _ {s : Structure} {order : List ℕ} {rows : List Row} (table : IsTable s order rows) where
-  pub levels_few : s.levels ≤ 3
+  pub levels_few : s.levels ≤ most_levels
   levels_few = table.ranges.few
 
   pub length_rows : length rows ≡ s.count
@@ -69,7 +70,7 @@ module _ {s : Structure} {order : List ℕ} {rows : List Row} (table : IsTable s
 -- ---- a coding order as it is made
 
 module _ (order : List CodedPicture) (count levels : ℕ) (is : map coded_as order ≡ coding count levels)
-    (some : 1 ≤ count) (most : count ≤ 64) (few : levels ≤ 3) where
+    (some : 1 ≤ count) (most : count ≤ 64) (few : levels ≤ most_levels) where
   pub length_made : length order ≡ count
   length_made =
       sym (length-map order coded_as) ∙ ap (λ t. length t) is ∙ length-coding count levels some most few

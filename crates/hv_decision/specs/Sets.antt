@@ -24,8 +24,8 @@ kept_by c picture other = record {
   is_used = list_any (nat_eq other) (references_of c.references);
 }
 
--- the entries in the order of the slice header: those before the picture, the nearest first, and then
--- those after it, the nearest first
+-- the entries in the order of the slice header: those before the picture, the nearest first, and
+-- then those after it, the nearest first
 abbrev pub set_entries : ReferenceSet → List SetEntry
 set_entries s = map entry_before s.before ++ map entry_after s.after
 
@@ -42,7 +42,8 @@ abbrev pub life_before : Life → Coded → ℕ → ℕ → Life
 life_before life c place picture = record {
   place = cond (nat_eq c.picture picture) place life.place;
   until =
-      cond (nat_lt 0 life.until) life.until (cond (list_any (nat_eq picture) c.references) (place + 1) 0);
+      cond (nat_lt 0 life.until) life.until
+      (cond (list_any (nat_eq picture) c.references) (place + 1) 0);
 }
 
 -- the picture of this life is kept by the one at this place

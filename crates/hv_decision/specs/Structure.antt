@@ -1,5 +1,6 @@
 -- The structure of a group, as contracts see it.
 use Rattle.std.specs.Prelude.{◌≡◌, ◌≤◌, ℕ, List, map}
+use Rattle.hv_types.specs.Configuration.{most_levels}
 use Rattle.hv_group_model.specs.Structure.{coding, rising}
 use Rattle.hv_decision.specs.declared.row.Row.{Row}
 use Rattle.hv_decision.specs.Sets.{of_picture, row_as}
@@ -12,7 +13,7 @@ pub record Structure : Type 0 where
 pub record IsStructure (s : Structure) : Type 0 where
   pub some : 1 ≤ s.count
   pub most : s.count ≤ 64
-  pub few : s.levels ≤ 3
+  pub few : s.levels ≤ most_levels
 
 -- pictures in coding order, and a row for each picture in output order, are those of the definition
 pub record IsTable (s : Structure) (order : List ℕ) (rows : List Row) : Type 0 where

@@ -12,6 +12,6 @@ mod structure;
 mod tests;
 
 pub use group::{Group, GroupOutput};
-pub use laws::order_law;
+pub use laws::orders_are_sound;
 pub use row::SetEntry;
 pub use structure::Structure;

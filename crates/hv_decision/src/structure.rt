@@ -1,6 +1,7 @@
 //! The structure of a group of pictures.
 
 ghost use Rattle.std.specs.Prelude.{◌≡◌, ◌+◌, ◌<◌, ◌≤◌, map, length, IfOk, slice_get, slice_index_or, Some};
+ghost use Rattle.hv_types.specs.Configuration.{most_levels};
 
 use crate::coding::{coding_order, pictures_of};
 use crate::row::{Row, SetEntry};
@@ -41,7 +42,7 @@ impl Structure {
     pub fn of(alloc: Global, count: u8, levels: u8) -> Result<Self, NoMemory>
         requires some { 1 ≤ count }
         requires most { count ≤ 64 }
-        requires few { levels ≤ 3 }
+        requires few { levels ≤ most_levels }
         ensures { IfOk result (λ s. (s.count ≡ count) × (s.levels ≡ levels)) }
     {
         let coding = coding_order(alloc, count, levels)?;
@@ -67,7 +68,7 @@ impl Structure {
     /// How many temporal levels lie above the lowest.
     pub fn levels(&self) -> u8
         ensures value { result ≡ self.now.levels }
-        ensures few { result ≤ 3 }
+        ensures few { result ≤ most_levels }
     {
         self.levels
     }
@@ -93,9 +94,7 @@ impl Structure {
     /// the list has no entry 1.
     pub fn second(&self, k: u8) -> Option<u8>
         requires { k < self.now.count }
-        ensures value { result ≡
-            slice_get (coded_of self.now.count self.now.levels k).references 1 }
-        ensures most { length (coded_of self.now.count self.now.levels k).references ≤ 2 }
+        ensures { result ≡ slice_get (coded_of self.now.count self.now.levels k).references 1 }
     {
         self.row(k).coded.references.second()
     }
@@ -105,7 +104,7 @@ impl Structure {
         requires { k < self.now.count }
         ensures value { result ≡ (coded_of self.now.count self.now.levels k).depth }
         ensures most { result ≤ self.now.levels + 1 }
-        ensures few { result ≤ 4 }
+        ensures few { result ≤ most_levels + 1 }
     {
         self.row(k).coded.depth
     }
@@ -156,7 +155,7 @@ impl Structure {
         ensures value { row_as result.now ≡ of_picture self.now.count self.now.levels k }
         ensures depth { result.now.coded.depth ≤ self.now.levels + 1 }
         ensures entries { length result.now.entries.items ≤ self.now.levels + 1 }
-        ensures levels { self.now.levels ≤ 3 }
+        ensures levels { self.now.levels ≤ most_levels }
     {
         &self.rows[usize::from(k)]
     }

@@ -1,5 +1,9 @@
--- The structure of a group of pictures: their coding order, and each picture's depth and references.
+-- The structure of a group of pictures: their coding order, and each picture's depth and
+-- references.
 -- Pictures are numbered in output order from 0: the number is the picture order count (8.3.1).
+-- Which pictures are anchors, how the ranges between them are halved, the depths, the quantiser of
+-- a depth, and which pictures are kept are this project's own rules, which H.265 leaves to the
+-- encoder. What list 0 and a reference picture set are is H.265's (8.3.2, 8.3.4).
 use Rattle.std.specs.Prelude.{ℕ, zero, suc, ◌+◌, ◌-◌, ◌/◌, ◌^◌, min, Bool, cond, nat_eq, nat_lt, ◌&&◌, List, [], ◌∷◌, ◌++◌, length, flat_map, take, drop, slice_index_or}
 use Rattle.std.specs.Int.{abs_diff}
 use Rattle.std.specs.List.{list_any}
@@ -7,14 +11,16 @@ use Rattle.std.specs.List.{list_any}
 pub record Coded : Type 0 where
   pub picture : ℕ
   pub depth : ℕ
-  -- list 0 (8.3.4): those before the picture, the nearest first, and then those after it, the nearest first
+  -- list 0 (8.3.4): those before the picture, the nearest first, and then those after it, the
+  -- nearest first
   pub references : List ℕ
 
 abbrev pub coded : ℕ → ℕ → List ℕ → Coded
-coded picture depth references = record { picture = picture; depth = depth; references = references }
+coded picture depth references =
+    record { picture = picture; depth = depth; references = references }
 
--- The pictures between two that are coded: the middle one, then those before it, then those behind it. A range of
--- at most 2^levels pictures is halved `levels` times at most.
+-- Own rule. The pictures between two that are coded: the middle one, then those before it, then
+-- those behind it. A range of at most 2^levels pictures is halved `levels` times at most.
 abbrev pub halves : ℕ → ℕ → ℕ → ℕ → List Coded
 halves zero low high depth = []
 halves (suc levels) low high depth =
@@ -23,7 +29,7 @@ halves (suc levels) low high depth =
     (coded middle depth (low ∷ high ∷ []) ∷
     (halves levels low middle (depth + 1) ++ halves levels middle high (depth + 1)))
 
--- a block from the anchor before it: the anchor at its end, and what lies between
+-- own rule: a block from the anchor before it: the anchor at its end, and what lies between
 abbrev pub blocks : ℕ → ℕ → List ℕ → List Coded
 blocks levels low [] = []
 blocks levels low (high ∷ anchors) =
@@ -33,7 +39,7 @@ abbrev pub multiples : ℕ → ℕ → ℕ → List ℕ
 multiples zero from step = []
 multiples (suc count) from step = from ∷ multiples count (from + step) step
 
--- the multiples of 2^levels below the last picture, and the last picture
+-- own rule: the multiples of 2^levels below the last picture, and the last picture
 abbrev pub anchors : ℕ → ℕ → List ℕ
 anchors count levels =
     cond (nat_lt count 2) []
@@ -43,7 +49,7 @@ anchors count levels =
 abbrev pub coding : ℕ → ℕ → List Coded
 coding count levels = coded 0 0 [] ∷ blocks levels 0 (anchors count levels)
 
--- the quantiser of a picture of this depth
+-- own rule: the quantiser of a picture of this depth, one more for each depth (slice_qp_delta)
 abbrev pub qp_at : ℕ → ℕ → ℕ
 qp_at base depth = min 51 (base + depth)
 
@@ -52,7 +58,8 @@ qp_at base depth = min 51 (base + depth)
 -- the place of a picture in coding order
 abbrev pub place_in : List Coded → ℕ → ℕ
 place_in [] picture = 0
-place_in (first ∷ rest) picture = cond (nat_eq first.picture picture) 0 (suc (place_in rest picture))
+place_in (first ∷ rest) picture =
+    cond (nat_eq first.picture picture) 0 (suc (place_in rest picture))
 
 -- one of these pictures is this one
 abbrev pub is_among : List Coded → ℕ → Bool
@@ -62,10 +69,11 @@ is_among order picture = list_any (λ c. nat_eq c.picture picture) order
 abbrev pub is_referred : List Coded → ℕ → Bool
 is_referred order picture = list_any (λ c. list_any (nat_eq picture) c.references) order
 
--- The picture at this place keeps another one: that was coded before it, and the picture itself or one that is coded
--- after it refers to it.
+-- Own rule. The picture at this place keeps another one: that was coded before it, and the picture
+-- itself or one that is coded after it refers to it.
 abbrev pub is_kept : List Coded → ℕ → ℕ → Bool
-is_kept order place other = is_among (take place order) other && is_referred (drop place order) other
+is_kept order place other =
+    is_among (take place order) other && is_referred (drop place order) other
 
 -- the references of the picture at this place
 abbrev pub references_at : List Coded → ℕ → List ℕ
@@ -80,8 +88,8 @@ abbrev pub rising : ℕ → ℕ → List ℕ
 rising zero n = []
 rising (suc count) n = n ∷ rising count (n + 1)
 
--- a picture of a reference set, by how far it is from the picture that keeps it; it is used where that picture itself
--- refers to it (used_by_curr_pic_s0_flag, used_by_curr_pic_s1_flag)
+-- a picture of a reference set, by how far it is from the picture that keeps it; it is used where
+-- that picture itself refers to it (used_by_curr_pic_s0_flag, used_by_curr_pic_s1_flag)
 pub record Kept : Type 0 where
   pub distance : ℕ
   pub is_used : Bool
@@ -95,9 +103,11 @@ kept order place picture other = record {
 -- the kept ones among these pictures
 abbrev pub kept_among : List Coded → ℕ → ℕ → List ℕ → List Kept
 kept_among order place picture others =
-    flat_map (λ other. cond (is_kept order place other) (kept order place picture other ∷ []) []) others
+    flat_map
+    (λ other. cond (is_kept order place other) (kept order place picture other ∷ []) []) others
 
--- those before the picture in output order, the nearest first, and those after it, the nearest first
+-- those before the picture in output order, the nearest first, and those after it, the nearest
+-- first
 pub record ReferenceSet : Type 0 where
   pub before : List Kept
   pub after : List Kept

@@ -5,7 +5,7 @@ use Rattle.std.specs.List.{flat_map}
 use Rattle.std.proofs.lemmas.Bool.{cases_lt}
 use Rattle.std.proofs.lemmas.List.{get_or_append_left, get_or-append_right, get_or-take, get_or-drop, length-take-le, length-take, length-drop, take-append-drop}
 use borrow.Rule.Slice.PartMut.{put_mid, post_of}
-use Rattle.hv_types.specs.Samples.{tabulate}
+use Rattle.hv_lemmas.specs.Lists.{tabulate}
 use Rattle.hv_sample_model.specs.Blocks.{square}
 use Rattle.hv_intra.specs.Blocks.{IsRow, HasRows}
 

@@ -1,4 +1,5 @@
 pub mod ComparisonLemmas
 pub mod ComputedLemmas
+pub mod ListLemmas
 pub mod OptionLemmas
 pub mod SignedLemmas

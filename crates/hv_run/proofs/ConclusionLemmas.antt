@@ -12,7 +12,7 @@ use Rattle.hv_types.specs.declared.picture.Picture.{Picture}
 use Rattle.hv_types.specs.Configuration.{fault_of, picture_bytes}
 use Rattle.hv_types.specs.Outside.{Rises}
 use Rattle.hv_types.proofs.ConfigurationLemmas.{valid, picture_bytes-least}
-use Rattle.hv_types.proofs.SampleLemmas.{length-tabulate}
+use Rattle.hv_lemmas.proofs.ListLemmas.{length-tabulate}
 use Rattle.hv_model.specs.Built.{IsBuilt, is_built}
 use Rattle.hv_model.proofs.RoundTripLemmas.{built_decided}
 use Rattle.hv_run.specs.declared.words.WordsError.TheVariants.{NotBuilt}

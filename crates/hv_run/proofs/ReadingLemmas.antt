@@ -5,7 +5,7 @@ use Rattle.std.proofs.lemmas.List.{length-take-le}
 use Rattle.std.proofs.lemmas.Nat.{div-mul-add}
 use Rattle.hv_types.specs.declared.settings.Settings.{Settings}
 use Rattle.hv_types.specs.Configuration.{picture_bytes}
-use Rattle.hv_types.proofs.SampleLemmas.{length-tabulate}
+use Rattle.hv_lemmas.proofs.ListLemmas.{length-tabulate}
 use Rattle.hv_run.specs.Outcomes.{pictures_in, rest_in, pictures_read, whole_groups, group_count}
 
 pub some_same : {A : Type 0} (a b : A) → Some a ≡ Some b → a ≡ b

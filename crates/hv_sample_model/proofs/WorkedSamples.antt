@@ -4,7 +4,7 @@ use Rattle.hv_sample_model.specs.IntraPrediction.{substituted, smoothed, predict
 use Rattle.hv_sample_model.specs.InverseTransform.{scaled, residual}
 use Rattle.hv_sample_model.specs.Quantisation.{transformed, levels}
 use Rattle.hv_sample_model.specs.Blocks.{sum_of, total_of}
-use Rattle.hv_types.specs.Samples.{tabulate}
+use Rattle.hv_lemmas.specs.Lists.{tabulate}
 
 -- DC of a luma block of 8x8, between 60 at the left and 100 above
 abbrev pub line_of_8 : List ℕ

@@ -1,6 +1,6 @@
 -- Square blocks of numbers by rows.
 use Rattle.std.specs.Prelude.{ℕ, zero, suc, ◌+◌, ◌*◌, ◌^◌, List, flat_map, slice_index_or, ℤ, pos, ◌+ℤ◌}
-use Rattle.hv_types.specs.Samples.{tabulate}
+use Rattle.hv_lemmas.specs.Lists.{tabulate}
 
 -- the block of 2^log2 columns and rows whose number in column x of row y is f x y
 abbrev pub square : {A : Type 0} → ℕ → (ℕ → ℕ → A) → List A

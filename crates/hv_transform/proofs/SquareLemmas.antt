@@ -4,7 +4,7 @@ use Rattle.std.specs.List.{flat_map}
 use Rattle.std.proofs.lemmas.List.{get_or_append_left, get_or-append_right, ext_get_or}
 use Rattle.std.proofs.lemmas.Nat.{pow_pos}
 use Rattle.std.proofs.Math.Nat.{add-mul, div-lt_iff_lt-mul, mod-add-div'}
-use Rattle.hv_types.specs.Samples.{tabulate}
+use Rattle.hv_lemmas.specs.Lists.{tabulate}
 use Rattle.hv_sample_model.specs.Blocks.{square}
 use Rattle.hv_transform.specs.Passes.{HasFirst}
 use Rattle.hv_transform.proofs.PlaceLemmas.{place_inside, row_of_place, column_of_place}

@@ -1,4 +1,4 @@
--- Lists made from a function of the place, and planes made from a function of column and row.
+-- Planes made from a function of column and row: padding, cropping, and their samples.
 use Rattle.std.proofs.Common.{◌≡◌, ℕ, zero, suc, ◌+◌, ◌-◌, ◌*◌, ◌/◌, ◌%◌, ◌<◌, ◌≤◌, List, [], ◌∷◌, ◌++◌, length, get_or, replicate, min, slice_range, ⊎_elim, append-nil, append_assoc, refl, sym, ◌∙◌, ap, ap₂, subst, mul_comm, arith, length-append}
 use Rattle.std.specs.List.{concat}
 use Rattle.std.proofs.lemmas.List.{get_or_append_left, get_or-append_right, same_lists, get_or_default, get_or_past, get_or-set_same, get_or-set_other, length-set, get_or-replicate, length-replicate}
@@ -7,43 +7,9 @@ use Rattle.std.proofs.lemmas.Bool.{cases_lt}
 use Rattle.std.proofs.lemmas.List.Elements.{All-append}
 use Rattle.std.specs.Prelude.{All}
 use Rattle.std.proofs.lemmas.List.Edits.{length-between, get_or-between}
-use Rattle.hv_types.specs.Samples.{Plane, IsWhole, IsPlane, HasByteSamples, tabulate, lengthened_row, sample_at, row_of, with_sample, plane_of, filled_plane, pad_plane, crop_plane}
-
-pub length-tabulate : {A : Type 0} (n : ℕ) (f : ℕ → A) → length (tabulate n f) ≡ n
-unfolding tabulate
-length-tabulate zero f = refl
-length-tabulate (suc n) f = ap suc (length-tabulate n (λ i. f (suc i)))
-
-pub get_or-tabulate : {A : Type 0} (n i : ℕ) (f : ℕ → A) (d : A) → i < n → get_or (tabulate n f) i
-    d ≡ f i
-unfolding tabulate
-get_or-tabulate zero i f d below = absurd (omega arith)
-get_or-tabulate (suc n) zero f d below = refl
-get_or-tabulate (suc n) (suc i) f d below = get_or-tabulate n i (λ k. f (suc k)) d (omega arith)
-
--- two functions that agree below n
-pub tabulate-same : {A : Type 0} (n : ℕ) (f g : ℕ → A) → ((i : ℕ) → i < n → f i ≡ g i) → tabulate n
-    f ≡ tabulate n g
-unfolding tabulate
-tabulate-same zero f g same = refl
-tabulate-same (suc n) f g same =
-    let first : f 0 ≡ g 0 = same 0 (omega arith) in
-    let later : tabulate n (λ i. f (suc i)) ≡ tabulate n (λ i. g (suc i)) =
-    tabulate-same n (λ i. f (suc i)) (λ i. g (suc i)) (λ i below. same (suc i) (omega arith)) in
-    cc
-
--- one value more
-pub tabulate_push : {A : Type 0} (n : ℕ) (f : ℕ → A) → tabulate (suc n) f ≡ tabulate n f ++ f n ∷ []
-unfolding tabulate
-tabulate_push zero f = refl
-tabulate_push (suc n) f = ap (λ t. f 0 ∷ t) (tabulate_push n (λ i. f (suc i)))
-
--- a list is made from its own elements
-pub tabulate_own : {A : Type 0} (xs : List A) (d : A) → tabulate (length xs)
-    (λ i. get_or xs i d) ≡ xs
-unfolding tabulate
-tabulate_own [] d = refl
-tabulate_own (x ∷ xs) d = ap (λ t. x ∷ t) (tabulate_own xs d)
+use Rattle.hv_lemmas.specs.Lists.{tabulate}
+use Rattle.hv_lemmas.proofs.ListLemmas.{length-tabulate, get_or-tabulate, tabulate_push}
+use Rattle.hv_types.specs.Samples.{Plane, IsWhole, IsPlane, HasByteSamples, lengthened_row, sample_at, row_of, with_sample, plane_of, filled_plane, pad_plane, crop_plane}
 
 pub length-rows : (w h : ℕ) (f : ℕ → ℕ → ℕ) → length
     (concat (tabulate h (λ y. tabulate w (λ x. f x y)))) ≡ w * h

@@ -5,12 +5,14 @@ use Rattle.std.specs.List.{flat_map}
 use Rattle.std.proofs.lemmas.List.{length-take-le, take_at, drop_at, drop-drop, take-append-drop, length-drop}
 use Rattle.std.proofs.lemmas.List.Elements.{All-append, All-take, All-drop}
 use Rattle.std.proofs.lemmas.Nat.{mul-add-lt, div-mul-add, mod_below, div-add-mod', row_fits}
-use Rattle.hv_types.specs.Samples.{Plane, IsPlane, tabulate, pad_plane, crop_plane}
+use Rattle.hv_lemmas.specs.Lists.{tabulate}
+use Rattle.hv_types.specs.Samples.{Plane, IsPlane, pad_plane, crop_plane}
 use Rattle.hv_types.specs.Configuration.{picture_bytes_of}
 use Rattle.hv_types.specs.Video.{IsPicture, raw, front_plane, picture_of, picture_count, pictures, padded_side}
 use Rattle.hv_types.specs.VideoLaws.{CropUndoesPad, PadGivesPicture, CountsRaw, IsFront, FrontIsPicture, PicturesReadBack, BytesAreSplit, KeepBytes}
 use Rattle.hv_types.specs.declared.picture.Picture.{Picture}
-use Rattle.hv_types.proofs.SampleLemmas.{IsPlane-pad, crop-pad, HasByteSamples-pad, HasByteSamples-crop, length-tabulate, get_or-tabulate, tabulate-same}
+use Rattle.hv_lemmas.proofs.ListLemmas.{length-tabulate, get_or-tabulate, tabulate-same}
+use Rattle.hv_types.proofs.SampleLemmas.{IsPlane-pad, crop-pad, HasByteSamples-pad, HasByteSamples-crop}
 
 abbrev picture : Plane → Plane → Plane → Picture
 picture luma cb cr = record { luma = luma; cb = cb; cr = cr }

@@ -1,6 +1,7 @@
 -- Small planes and pictures written out, against which the definitions of video are compared.
 use Rattle.std.proofs.Common.{◌≡◌, ℕ, ◌+◌, ◌*◌, List, [], ◌∷◌, refl}
-use Rattle.hv_types.specs.Samples.{Plane, tabulate, plane_of, sample_at, filled_plane, with_sample, pad_plane, crop_plane}
+use Rattle.hv_lemmas.specs.Lists.{tabulate}
+use Rattle.hv_types.specs.Samples.{Plane, plane_of, sample_at, filled_plane, with_sample, pad_plane, crop_plane}
 use Rattle.hv_types.specs.Configuration.{picture_bytes_of}
 use Rattle.hv_types.specs.Video.{raw, pictures, rest, padded_side, pad, crop}
 use Rattle.hv_types.specs.declared.picture.Picture.{Picture}

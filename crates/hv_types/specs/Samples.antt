@@ -1,11 +1,7 @@
 -- Planes of samples, and the lists that they are made of.
-use Rattle.std.specs.Prelude.{◌≡◌, ℕ, zero, suc, ◌+◌, ◌-◌, ◌*◌, ◌<◌, List, [], ◌∷◌, ◌++◌, length, replicate, All, min, slice_index, slice_index_or, slice_range, slice_set}
+use Rattle.std.specs.Prelude.{◌≡◌, ℕ, ◌+◌, ◌-◌, ◌*◌, ◌<◌, List, ◌++◌, length, replicate, All, min, slice_index, slice_index_or, slice_range, slice_set}
 use Rattle.std.specs.List.{concat}
-
--- f 0, f 1 and so on: n values
-unfoldable pub tabulate : {A : Type 0} → ℕ → (ℕ → A) → List A
-tabulate zero f = []
-tabulate (suc n) f = f 0 ∷ tabulate n (λ i. f (suc i))
+use Rattle.hv_lemmas.specs.Lists.{tabulate}
 
 -- a row, and then its last sample until there are n
 abbrev pub lengthened_row : List ℕ → ℕ → List ℕ

@@ -1,7 +1,8 @@
 -- Video: pictures, their bytes, and how they are padded and cropped.
 use Rattle.std.specs.Prelude.{ℕ, ◌+◌, ◌*◌, ◌/◌, List, ◌++◌, length, take, drop}
 use Rattle.hv_types.specs.Configuration.{next_multiple, padded_width, padded_height, picture_bytes_of}
-use Rattle.hv_types.specs.Samples.{Plane, IsPlane, HasByteSamples, plane_by_rows, tabulate, pad_plane, crop_plane}
+use Rattle.hv_lemmas.specs.Lists.{tabulate}
+use Rattle.hv_types.specs.Samples.{Plane, IsPlane, HasByteSamples, plane_by_rows, pad_plane, crop_plane}
 use Rattle.hv_types.specs.declared.settings.Settings.{Settings}
 use Rattle.hv_types.specs.declared.picture.Picture.{Picture}
 

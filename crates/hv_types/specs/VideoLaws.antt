@@ -2,7 +2,7 @@
 use Rattle.std.specs.Prelude.{◌≡◌, ℕ, ◌<◌, ◌≤◌, List, ◌++◌, length, take, All}
 use Rattle.std.specs.List.{flat_map}
 use Rattle.hv_types.specs.Configuration.{picture_bytes_of}
-use Rattle.hv_types.specs.Samples.{tabulate}
+use Rattle.hv_lemmas.specs.Lists.{tabulate}
 use Rattle.hv_types.specs.Video.{IsPicture, HasBytes, raw, picture_of, pictures, rest, padded_side, pad, crop}
 use Rattle.hv_types.specs.declared.picture.Picture.{Picture}
 

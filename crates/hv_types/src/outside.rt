@@ -51,6 +51,7 @@ pub trait Sink {
 /// What each worker tells before it performs a piece, outside of any lock. Several threads may
 /// call it at a time, and nothing that a contract names changes.
 pub trait Gate: Sync {
+    /// A piece is about to be performed.
     fn before(&self, piece: Piece);
 }
 

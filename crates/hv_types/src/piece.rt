@@ -20,6 +20,7 @@ pub struct Piece {
     pub group: u32,
     /// The number of the picture in its group, in output order, from 0.
     pub picture: u8,
+    /// What is done.
     pub kind: PieceKind,
     /// The number of the segment in its picture, by rows; 0 for the other kinds.
     pub segment: u32,

@@ -168,7 +168,8 @@ fn append_row(samples: &mut Vec<u8>, row: &[u8], columns: usize) -> Result<(), N
     requires some { 0 < length row.now }
     requires within { length row.now ≤ columns }
     requires fits { vec_len samples.old + columns < 2 ^ 64 }
-    ensures { OnOk result (samples.new.items ≡ samples.old.items ++ lengthened_row row.now columns) }
+    ensures { OnOk result
+        (samples.new.items ≡ samples.old.items ++ lengthened_row row.now columns) }
 {
     let end = samples.len() + columns;
     samples.extend_from_slice(row)?;

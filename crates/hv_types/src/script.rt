@@ -25,6 +25,7 @@ impl Model for Script {
 }
 
 impl Script {
+    /// No calls so far; those whose numbers, from 0, are in `failing` will fail.
     pub(crate) fn new(failing: Vec<u64>) -> Self
         ensures { result ≡ uncalled_script failing.items }
     {

@@ -24,6 +24,7 @@ impl Model for SteadySource {
 }
 
 impl SteadySource {
+    /// A source of these bytes.
     pub fn new(bytes: Vec<u8>) -> Self
         ensures { result ≡ bytes.items }
     {
@@ -58,6 +59,7 @@ impl Source for SteadySource {
 pub struct SteadySink;
 
 impl SteadySink {
+    /// A sink that takes everything.
     pub fn new() -> Self {
         SteadySink
     }

@@ -1,4 +1,4 @@
-use Rattle.hv_types.proofs.SampleLemmas.{length-tabulate}
+use Rattle.hv_lemmas.proofs.ListLemmas.{length-tabulate}
 use Rattle.hv_types.proofs.laws.tabulate_counts.Goals as goal
 
 pub returns : goal.returns

@@ -1,5 +1,5 @@
 use Rattle.hv_decision.proofs.OrderLemmas.{orders}
-use Rattle.hv_decision.proofs.laws.order_law.Goals as goal
+use Rattle.hv_decision.proofs.laws.orders_are_sound.Goals as goal
 
 pub returns : goal.returns
 returns c = orders

@@ -37,7 +37,7 @@ invariant_of-self c =
     let same = c.per_row.ensures.value ∙ ap (λ w. per_row w.columns w.segment) (sym c.self.view_is) in
     let taken = subst (λ w. stage w s ≡ Taken) (sym c.self.view_is) c.requires in
     let is = taken_read columns segment rows s c.per_row.result row same taken c.index_mut-row.ensures.value in
-    whole_after columns segment rows (s / c.per_row.result) (row.done + 1) c.self.invariant
+    whole_after columns segment rows (s / c.per_row.result) _ c.self.invariant
     (omega (arith, (taken_row columns segment rows s row is taken).more))
 
 pub returns : goal.returns

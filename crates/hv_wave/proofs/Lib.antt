@@ -1,0 +1,4 @@
+pub mod SegmentLaws
+pub mod StageLaws
+pub mod ReadyLaws
+pub mod StepLaws

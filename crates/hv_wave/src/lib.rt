@@ -1,0 +1,9 @@
+//! The segments of a picture, taken one after another so that each finds its neighbours done.
+#![tactic(auto)]
+
+mod rows;
+#[cfg(test)]
+mod tests;
+mod wave;
+
+pub use wave::Wave;

@@ -4,6 +4,8 @@ use Rattle.std.specs.Prelude.{Option, Some, None, nat_lt, nat_eq, Err}
 use Rattle.std.proofs.lemmas.Nat.{div-add-mod', mul-le}
 use Rattle.std.proofs.Math.Nat.{lt-div-mul-add}
 use Rattle.std.proofs.lemmas.Bool.Decides.{nat_tests}
+use Rattle.hv_lemmas.proofs.ComparisonLemmas.{lt_below, lt_not_below}
+use Rattle.hv_lemmas.proofs.OptionLemmas.{some_same}
 use Rattle.hv_types.specs.declared.settings.Settings.{Settings}
 use Rattle.hv_types.specs.declared.settings.Emit.{Emit}
 use Rattle.hv_types.specs.declared.settings.Emit.TheVariants.{Stream, Recon}
@@ -15,60 +17,20 @@ use Rattle.hv_types.proofs.ConfigurationLemmas.{valid, picture_bytes-least}
 use Rattle.hv_types.proofs.SampleLemmas.{length-tabulate}
 use Rattle.hv_model.specs.Built.{IsBuilt, is_built}
 use Rattle.hv_model.proofs.RoundTripLemmas.{built_decided}
-use Rattle.hv_run.specs.declared.words.WordsError.TheVariants.{NotBuilt}
-use Rattle.hv_run.specs.declared.encode.Totals.{Totals}
-use Rattle.hv_run.specs.declared.encode.EncodeError.{EncodeError}
-use Rattle.hv_run.specs.declared.encode.EncodeError.TheVariants as error
+use Rattle.hv_words.specs.declared.words.WordsError.TheVariants.{NotBuilt}
+use Rattle.hv_serial.specs.declared.encode.Totals.{Totals}
+use Rattle.hv_serial.specs.declared.encode.EncodeError.{EncodeError}
+use Rattle.hv_serial.specs.declared.encode.EncodeError.TheVariants as error
 use Rattle.hv_run.specs.declared.status.Status.{Status}
 use Rattle.hv_run.specs.declared.status.Status.TheVariants.{Ok, Words, ReadFault, ShortPicture, WriteFault, NoMemory, TooLong, ReportFault}
-use Rattle.hv_run.specs.CommandLine.{AsksFor, refusal_of_settings, refusal_by, is_accepted, is_stream, is_read}
-use Rattle.hv_run.specs.Transfers.{PutsPart}
-use Rattle.hv_run.specs.Outcomes.{most_pictures, pictures_in, rest_in, group_count, Grows, WroteGroups, IsReadToEnd, EndsWithin, GoesOn}
-use Rattle.hv_run.specs.Endings.{Call, BothTold, Ends, EndsOk, AreTotals}
+use Rattle.hv_words.specs.CommandLine.{AsksFor}
+use Rattle.hv_words.proofs.AcceptanceLemmas.{same_settings}
+use Rattle.hv_serial.specs.Transfers.{PutsPart}
+use Rattle.hv_serial.specs.Outcomes.{most_pictures, pictures_in, rest_in, group_count, Grows, WroteGroups, IsReadToEnd, EndsWithin, GoesOn}
+use Rattle.hv_serial.specs.Endings.{Call, BothTold, Ends, EndsOk, AreTotals}
 use Rattle.hv_run.specs.Report.{ReportCall, Reports, encoded_line, error_line, totals_line, line_of}
 use Rattle.hv_run.specs.Statuses.{is_whole, is_of_input, fixed_line, status_of, Concludes, ConcludedOk, ConcludedReportFault, due, status_due, IsDue}
-use Rattle.hv_run.proofs.ReadingLemmas.{some_same}
-use Rattle.hv_run.proofs.ProgressLemmas.{next_place}
-
--- ---- accepted words ask for one list of settings, which are built
-
--- of four tests, the first and the third
-first_and_third : (a b c d : Bool) → (a && b && c && d) ≡ true → (a ≡ true) × (c ≡ true)
-first_and_third true true true d e = (refl, refl)
-first_and_third true true false d e = cc
-first_and_third true false c d e = cc
-first_and_third false b c d e = cc
-
-not_refused : (t : Bool) → cond t None (Some NotBuilt) ≡ None → t ≡ true
-not_refused true e = refl
-not_refused false e = cc
-
-no_fault : (cfg : Settings) (fault : Option ConfigError) → refusal_by fault cfg ≡ None → (fault ≡ None) × (is_accepted cfg ≡ true)
-no_fault cfg None e = (refl, not_refused (is_accepted cfg) e)
-no_fault cfg (Some error) e = cc
-
-only_stream : (emit : Emit) → is_stream emit ≡ true → emit ≡ Stream
-only_stream Stream e = refl
-only_stream Recon e = cc
-
-accepted : (words : List (List ℕ)) (cfg : Settings) → AsksFor words cfg → (fault_of cfg ≡ None) × (is_accepted cfg ≡ true)
-accepted words cfg a = no_fault cfg (fault_of cfg) (ap refusal_of_settings (sym a.asked) ∙ a.accepted)
-
-pub accepted_built : (words : List (List ℕ)) (cfg : Settings) → AsksFor words cfg → IsBuilt cfg
-accepted_built words cfg a =
-    let h = accepted words cfg a in
-    (built_decided cfg (valid cfg h.0)).0
-    (first_and_third (is_built cfg) (nat_eq cfg.workers 1) (is_stream cfg.emit) (is_read cfg.synth) h.1).0
-
-pub accepted_emit : (words : List (List ℕ)) (cfg : Settings) → AsksFor words cfg → cfg.emit ≡ Stream
-accepted_emit words cfg a =
-    let h = accepted words cfg a in
-    only_stream cfg.emit
-    (first_and_third (is_built cfg) (nat_eq cfg.workers 1) (is_stream cfg.emit) (is_read cfg.synth) h.1).1
-
--- the settings are one
-same_settings : (words : List (List ℕ)) (a b : Settings) → AsksFor words a → AsksFor words b → a ≡ b
-same_settings words a b p q = some_same a b (sym p.asked ∙ q.asked)
+use Rattle.hv_serial.proofs.ProgressLemmas.{next_place}
 
 -- ---- a call that concluded so, for the settings that were asked for
 
@@ -154,12 +116,6 @@ part_of_line cfg c r h bytes told =
 
 -- ---- the status that is due
 
-lt_true : (a b : ℕ) → a < b → nat_lt a b ≡ true
-lt_true a b h = grind (arith, nat_tests)
-
-lt_false : (a b : ℕ) → b ≤ a → nat_lt a b ≡ false
-lt_false a b h = grind (arith, nat_tests)
-
 eq_true : (a : ℕ) → a ≡ 0 → nat_eq a 0 ≡ true
 eq_true a h = grind (arith, nat_tests)
 
@@ -191,7 +147,7 @@ due_ok cfg bytes now h =
     let z : ℕ = length bytes in
     let none : z % p ≡ 0 = sym (rest_length cfg bytes) ∙ ap (λ (x : List ℕ). length x) h.no_rest in
     let few : z / p ≤ most_pictures = subst (λ (n : ℕ). n ≤ most_pictures) (length-tabulate _ _) h.few in
-    sym (ap (λ (a : Bool). due a (nat_eq (z % p) 0) (z % p)) (lt_false (most_pictures * p) z (at_most p z most_pictures few none))
+    sym (ap (λ (a : Bool). due a (nat_eq (z % p) 0) (z % p)) (lt_not_below (most_pictures * p) z (at_most p z most_pictures few none))
     ∙ ap (λ (a : Bool). due false a (z % p)) (eq_true (z % p) none))
 
 due_short : (cfg : Settings) → IsBuilt cfg → (have : ℕ) (bytes : List ℕ) (now : Option (List ℕ)) → EndsWithin cfg have bytes now → ShortPicture have ≡ status_due cfg (length bytes)
@@ -202,14 +158,14 @@ due_short cfg b have bytes now h =
     let few : z / p < most_pictures = subst (λ (n : ℕ). n < most_pictures) (length-tabulate _ _) h.few in
     let some : 0 < p = omega (arith, picture_bytes-least cfg b.valid) in
     ap ShortPicture part
-    ∙ sym (ap (λ (a : Bool). due a (nat_eq (z % p) 0) (z % p)) (lt_false (most_pictures * p) z (below p z most_pictures some few))
+    ∙ sym (ap (λ (a : Bool). due a (nat_eq (z % p) 0) (z % p)) (lt_not_below (most_pictures * p) z (below p z most_pictures some few))
     ∙ ap (λ (a : Bool). due false a (z % p)) (eq_false (z % p) (omega (arith, part, h.some))))
 
 due_too_long : (cfg : Settings) (bytes : List ℕ) (now : Option (List ℕ)) → GoesOn cfg bytes now → TooLong ≡ status_due cfg (length bytes)
 due_too_long cfg bytes now h =
     let p : ℕ = picture_bytes cfg in
     let z : ℕ = length bytes in
-    sym (ap (λ (a : Bool). due a (nat_eq (z % p) 0) (z % p)) (lt_true (most_pictures * p) z h.more))
+    sym (ap (λ (a : Bool). due a (nat_eq (z % p) 0) (z % p)) (lt_below (most_pictures * p) z h.more))
 
 pub complete_case : (cfg : Settings) → IsBuilt cfg → (c : Call) (r : ReportCall) (s : Status) → Concludes cfg c r s → (bytes : List ℕ) → c.before ≡ Some bytes →
     (Rises c.read_faults_before c.read_faults_now → ⊥) → (Rises c.write_faults_before c.write_faults_now → ⊥) → (Rises r.faults_before r.faults_now → ⊥) →

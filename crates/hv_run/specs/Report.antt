@@ -6,13 +6,13 @@ use Rattle.hv_types.specs.declared.settings.ConfigError.TheVariants.{OddSize, Si
 use Rattle.hv_types.specs.declared.picture.Picture.{Picture}
 use Rattle.hv_types.specs.Outside.{Rises}
 use Rattle.hv_model.specs.Encoding.{output}
-use Rattle.hv_run.specs.declared.words.WordsError.{WordsError}
-use Rattle.hv_run.specs.declared.words.WordsError.TheVariants.{Parse, Config, NotBuilt}
-use Rattle.hv_run.specs.declared.encode.Totals.{Totals}
-use Rattle.hv_run.specs.declared.encode.EncodeError.{EncodeError}
-use Rattle.hv_run.specs.declared.encode.EncodeError.TheVariants.{ReadFault, ShortPicture, WriteFault, NoMemory, TooLong}
-use Rattle.hv_run.specs.Transfers.{PutsPart}
-use Rattle.hv_run.specs.Outcomes.{group_count, Grows}
+use Rattle.hv_words.specs.declared.words.WordsError.{WordsError}
+use Rattle.hv_words.specs.declared.words.WordsError.TheVariants.{Parse, Config, NotBuilt}
+use Rattle.hv_serial.specs.declared.encode.Totals.{Totals}
+use Rattle.hv_serial.specs.declared.encode.EncodeError.{EncodeError}
+use Rattle.hv_serial.specs.declared.encode.EncodeError.TheVariants.{ReadFault, ShortPicture, WriteFault, NoMemory, TooLong}
+use Rattle.hv_serial.specs.Transfers.{PutsPart}
+use Rattle.hv_serial.specs.Outcomes.{group_count, Grows}
 
 -- a text and a number in decimal digits
 abbrev pub counted : List ℕ → ℕ → List ℕ

@@ -4,12 +4,12 @@ use Rattle.hv_types.specs.declared.settings.Settings.{Settings}
 use Rattle.hv_types.specs.Configuration.{picture_bytes}
 use Rattle.hv_run.specs.declared.status.Status.{Status}
 use Rattle.hv_run.specs.declared.status.Status.TheVariants.{Ok, Words, ReadFault, ShortPicture, WriteFault, NoMemory, TooLong, ReportFault}
-use Rattle.hv_run.specs.declared.encode.Totals.{Totals}
-use Rattle.hv_run.specs.declared.encode.EncodeError.{EncodeError}
-use Rattle.hv_run.specs.declared.encode.EncodeError.TheVariants as error
-use Rattle.hv_run.specs.Outcomes.{most_pictures}
+use Rattle.hv_serial.specs.declared.encode.Totals.{Totals}
+use Rattle.hv_serial.specs.declared.encode.EncodeError.{EncodeError}
+use Rattle.hv_serial.specs.declared.encode.EncodeError.TheVariants as error
+use Rattle.hv_serial.specs.Outcomes.{most_pictures}
 use Rattle.hv_run.specs.Report.{ReportCall, Tells, TellsPart, Reports, totals_line, short_line, read_fault_line, write_fault_line, no_memory_line, too_long_line}
-use Rattle.hv_run.specs.Endings.{Call, EndsOk, EndsReadFault, EndsShort, EndsWriteFault, EndsNoMemory, EndsTooLong}
+use Rattle.hv_serial.specs.Endings.{Call, EndsOk, EndsReadFault, EndsShort, EndsWriteFault, EndsNoMemory, EndsTooLong}
 
 -- the exit code of a status
 abbrev pub code_of : Status → ℕ

@@ -3,10 +3,9 @@
 ghost use Rattle.std.specs.Prelude.{◌≡◌, ◌++◌, OnOk, OnErr, codes};
 ghost use Rattle.hv_run.specs.Report.{Tells, TellsPart, Reports, counted, short_line, words_line, config_line, error_line, totals_line};
 
-use crate::encode::{EncodeError, Totals};
-use crate::transfer::write_all;
-use crate::words::WordsError;
+use hv_serial::{EncodeError, Totals, write_all};
 use hv_types::{ConfigError, Failed, Sink};
+use hv_words::WordsError;
 use itoa::Buffer;
 
 /// Writes the line of an encoding that came to its end.

@@ -2,7 +2,8 @@
 use Rattle.std.proofs.Common.{refl}
 use Rattle.hv_model.proofs.RoundTripLemmas.{decoding_gives}
 use Rattle.hv_run.specs.declared.status.Status.TheVariants.{Ok, ReadFault, ShortPicture, WriteFault, NoMemory, TooLong, ReportFault}
-use Rattle.hv_run.proofs.ConclusionLemmas.{accepted_built, accepted_emit, concluded, words_never, whole_case, groups_case, line_case, ok_line, part_of_line, complete_case}
+use Rattle.hv_words.proofs.AcceptanceLemmas.{accepted_built, accepted_emit}
+use Rattle.hv_run.proofs.ConclusionLemmas.{concluded, words_never, whole_case, groups_case, line_case, ok_line, part_of_line, complete_case}
 use Rattle.hv_run.proofs.run.run_encode.Goals as goal
 
 pub encode_and_report-requires-clause-built : goal.encode_and_report-requires-clause-built

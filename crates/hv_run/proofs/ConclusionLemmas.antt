@@ -25,77 +25,77 @@ use Rattle.hv_run.specs.declared.status.Status.{Status}
 use Rattle.hv_run.specs.declared.status.Status.TheVariants.{Ok, Words, ReadFault, ShortPicture, WriteFault, NoMemory, TooLong, ReportFault}
 use Rattle.hv_words.specs.CommandLine.{AsksFor}
 use Rattle.hv_words.proofs.AcceptanceLemmas.{same_settings}
-use Rattle.hv_serial.specs.Transfers.{PutsPart}
-use Rattle.hv_serial.specs.Outcomes.{most_pictures, pictures_in, rest_in, group_count, Grows, WroteGroups, IsReadToEnd, EndsWithin, GoesOn}
-use Rattle.hv_serial.specs.Endings.{Call, BothTold, Ends, EndsOk, AreTotals}
-use Rattle.hv_run.specs.Report.{ReportCall, Reports, encoded_line, error_line, totals_line, line_of}
+use Rattle.hv_serial.specs.Transfers.{Drawn, Put, Grows, PutsPart}
+use Rattle.hv_serial.specs.Outcomes.{most_pictures, pictures_in, rest_in, group_count, WroteGroups, IsReadToEnd, EndsWithin, GoesOn}
+use Rattle.hv_serial.specs.Endings.{BothTold, Ends, EndsOk, AreTotals}
+use Rattle.hv_run.specs.Report.{Reports, encoded_line, error_line, totals_line, line_of}
 use Rattle.hv_run.specs.Statuses.{is_whole, is_of_input, fixed_line, status_of, Concludes, ConcludedOk, ConcludedReportFault, due, status_due, IsDue}
 use Rattle.hv_serial.proofs.ProgressLemmas.{next_place}
 
 -- ---- a call that concluded so, for the settings that were asked for
 
-pub concluded : (words : List (List ℕ)) (cfg config : Settings) (c : Call) (r : ReportCall) (s t : Status) → AsksFor words cfg → AsksFor words config →
-    Concludes config c r s → s ≡ t → Concludes cfg c r t
-concluded words cfg config c r s t a b e same =
-    subst (λ (k : Settings). Concludes k c r t) (same_settings words config cfg b a)
-    (subst (λ (u : Status). Concludes config c r u) same e)
+pub concluded : (words : List (List ℕ)) (cfg config : Settings) (d : Drawn) (w r : Put) (s t : Status) → AsksFor words cfg → AsksFor words config →
+    Concludes config d w r s → s ≡ t → Concludes cfg d w r t
+concluded words cfg config d w r s t a b e same =
+    subst (λ (k : Settings). Concludes k d w r t) (same_settings words config cfg b a)
+    (subst (λ (u : Status). Concludes config d w r u) same e)
 
-pub concluded_error : (cfg : Settings) (c : Call) (r : ReportCall) (size : ℕ) (e : EncodeError) (s : Status) → size ≡ picture_bytes cfg → s ≡ status_of e →
-    Ends cfg c (Err e) → Reports r (error_line size e) → Concludes cfg c r s
-concluded_error cfg c r size e s of_picture is ends reports =
-    subst (λ (t : Status). Concludes cfg c r t) (sym is)
-    (error_case cfg c r e ends (subst (λ (n : ℕ). Reports r (error_line n e)) of_picture reports))
+pub concluded_error : (cfg : Settings) (d : Drawn) (w r : Put) (size : ℕ) (e : EncodeError) (s : Status) → size ≡ picture_bytes cfg → s ≡ status_of e →
+    Ends cfg d w (Err e) → Reports r (error_line size e) → Concludes cfg d w r s
+concluded_error cfg d w r size e s of_picture is ends reports =
+    subst (λ (t : Status). Concludes cfg d w r t) (sym is)
+    (error_case cfg d w r e ends (subst (λ (n : ℕ). Reports r (error_line n e)) of_picture reports))
   where
-    error_case : (cfg : Settings) (c : Call) (r : ReportCall) (e : EncodeError) → Ends cfg c (Err e) → Reports r (error_line (picture_bytes cfg) e) → Concludes cfg c r (status_of e)
-    error_case cfg c r error.ReadFault ends reports = record { encoded = ends; reported = reports }
-    error_case cfg c r (error.ShortPicture have) ends reports = record { encoded = ends; reported = reports }
-    error_case cfg c r error.WriteFault ends reports = record { encoded = ends; reported = reports }
-    error_case cfg c r error.NoMemory ends reports = record { encoded = ends; reported = reports }
-    error_case cfg c r error.TooLong ends reports = record { encoded = ends; reported = reports }
+    error_case : (cfg : Settings) (d : Drawn) (w r : Put) (e : EncodeError) → Ends cfg d w (Err e) → Reports r (error_line (picture_bytes cfg) e) → Concludes cfg d w r (status_of e)
+    error_case cfg d w r error.ReadFault ends reports = record { encoded = ends; reported = reports }
+    error_case cfg d w r (error.ShortPicture have) ends reports = record { encoded = ends; reported = reports }
+    error_case cfg d w r error.WriteFault ends reports = record { encoded = ends; reported = reports }
+    error_case cfg d w r error.NoMemory ends reports = record { encoded = ends; reported = reports }
+    error_case cfg d w r error.TooLong ends reports = record { encoded = ends; reported = reports }
 
 -- ---- what the statuses share
 
-pub words_never : (cfg : Settings) (c : Call) (r : ReportCall) (s : Status) → Concludes cfg c r s → s ≡ Words → ⊥
-words_never cfg c r s h e = subst (λ (t : Status). Concludes cfg c r t) e h
+pub words_never : (cfg : Settings) (d : Drawn) (w r : Put) (s : Status) → Concludes cfg d w r s → s ≡ Words → ⊥
+words_never cfg d w r s h e = subst (λ (t : Status). Concludes cfg d w r t) e h
 
 -- the encoding came to its end
-pub record Whole (cfg : Settings) (c : Call) : Type 0 where
+pub record Whole (cfg : Settings) (d : Drawn) (w : Put) : Type 0 where
   pub totals : Totals
-  pub encoded : EndsOk cfg totals c
+  pub encoded : EndsOk cfg totals d w
 
-pub whole_case : (cfg : Settings) (c : Call) (r : ReportCall) (s : Status) → Concludes cfg c r s → is_whole s ≡ true → Whole cfg c
-whole_case cfg c r Ok h e = record { totals = h.totals; encoded = h.encoded }
-whole_case cfg c r Words h e = absurd h
-whole_case cfg c r ReadFault h e = absurd cc
-whole_case cfg c r (ShortPicture have) h e = absurd cc
-whole_case cfg c r WriteFault h e = absurd cc
-whole_case cfg c r NoMemory h e = absurd cc
-whole_case cfg c r TooLong h e = absurd cc
-whole_case cfg c r ReportFault h e = record { totals = h.totals; encoded = h.encoded }
+pub whole_case : (cfg : Settings) (d : Drawn) (w r : Put) (s : Status) → Concludes cfg d w r s → is_whole s ≡ true → Whole cfg d w
+whole_case cfg d w r Ok h e = record { totals = h.totals; encoded = h.encoded }
+whole_case cfg d w r Words h e = absurd h
+whole_case cfg d w r ReadFault h e = absurd cc
+whole_case cfg d w r (ShortPicture have) h e = absurd cc
+whole_case cfg d w r WriteFault h e = absurd cc
+whole_case cfg d w r NoMemory h e = absurd cc
+whole_case cfg d w r TooLong h e = absurd cc
+whole_case cfg d w r ReportFault h e = record { totals = h.totals; encoded = h.encoded }
 
-pub groups_case : (cfg : Settings) (c : Call) (r : ReportCall) (s : Status) → Concludes cfg c r s → is_of_input s ≡ true →
-    BothTold c (λ bytes left. WroteGroups cfg bytes left c.old c.new)
-groups_case cfg c r Ok h e = cc
-groups_case cfg c r Words h e = absurd h
-groups_case cfg c r ReadFault h e = h.encoded.wrote
-groups_case cfg c r (ShortPicture have) h e = h.encoded.wrote
-groups_case cfg c r WriteFault h e = cc
-groups_case cfg c r NoMemory h e = cc
-groups_case cfg c r TooLong h e = h.encoded.wrote
-groups_case cfg c r ReportFault h e = cc
+pub groups_case : (cfg : Settings) (d : Drawn) (w r : Put) (s : Status) → Concludes cfg d w r s → is_of_input s ≡ true →
+    BothTold d (λ bytes left. WroteGroups cfg bytes left w.old w.new)
+groups_case cfg d w r Ok h e = cc
+groups_case cfg d w r Words h e = absurd h
+groups_case cfg d w r ReadFault h e = h.encoded.wrote
+groups_case cfg d w r (ShortPicture have) h e = h.encoded.wrote
+groups_case cfg d w r WriteFault h e = cc
+groups_case cfg d w r NoMemory h e = cc
+groups_case cfg d w r TooLong h e = h.encoded.wrote
+groups_case cfg d w r ReportFault h e = cc
 
-the_line : (r : ReportCall) (a b : List ℕ) → Some a ≡ Some b → Reports r a → Reports r b
+the_line : (r : Put) (a b : List ℕ) → Some a ≡ Some b → Reports r a → Reports r b
 the_line r a b e h = subst (λ (x : List ℕ). Reports r x) (some_same a b e) h
 
-pub line_case : (cfg : Settings) (c : Call) (r : ReportCall) (s : Status) (line : List ℕ) → Concludes cfg c r s → fixed_line s ≡ Some line → Reports r line
-line_case cfg c r Ok line h e = absurd cc
-line_case cfg c r Words line h e = absurd h
-line_case cfg c r ReadFault line h e = the_line r _ line e h.reported
-line_case cfg c r (ShortPicture have) line h e = absurd cc
-line_case cfg c r WriteFault line h e = the_line r _ line e h.reported
-line_case cfg c r NoMemory line h e = the_line r _ line e h.reported
-line_case cfg c r TooLong line h e = the_line r _ line e h.reported
-line_case cfg c r ReportFault line h e = absurd cc
+pub line_case : (cfg : Settings) (d : Drawn) (w r : Put) (s : Status) (line : List ℕ) → Concludes cfg d w r s → fixed_line s ≡ Some line → Reports r line
+line_case cfg d w r Ok line h e = absurd cc
+line_case cfg d w r Words line h e = absurd h
+line_case cfg d w r ReadFault line h e = the_line r _ line e h.reported
+line_case cfg d w r (ShortPicture have) line h e = absurd cc
+line_case cfg d w r WriteFault line h e = the_line r _ line e h.reported
+line_case cfg d w r NoMemory line h e = the_line r _ line e h.reported
+line_case cfg d w r TooLong line h e = the_line r _ line e h.reported
+line_case cfg d w r ReportFault line h e = absurd cc
 
 -- the line of the totals is that of the pictures
 line_is : (cfg : Settings) (v : List Picture) (t : Totals) → AreTotals cfg v t → totals_line t ≡ line_of cfg v
@@ -104,14 +104,14 @@ line_is cfg v t a =
     ∙ ap (λ (n : ℕ). encoded_line (length v) n t.bytes) a.groups
     ∙ ap (λ (n : ℕ). encoded_line (length v) (group_count cfg (length v)) n) a.bytes
 
-pub ok_line : (cfg : Settings) (c : Call) (r : ReportCall) → ConcludedOk cfg c r → (bytes : List ℕ) → c.before ≡ Some bytes →
+pub ok_line : (cfg : Settings) (d : Drawn) (w r : Put) → ConcludedOk cfg d w r → (bytes : List ℕ) → d.before ≡ Some bytes →
     Grows r.old r.new (line_of cfg (pictures_in cfg bytes))
-ok_line cfg c r h bytes told =
+ok_line cfg d w r h bytes told =
     subst (λ (x : List ℕ). Grows r.old r.new x) (line_is cfg (pictures_in cfg bytes) h.totals (h.encoded.totals bytes told)) h.reported.whole
 
-pub part_of_line : (cfg : Settings) (c : Call) (r : ReportCall) → ConcludedReportFault cfg c r → (bytes : List ℕ) → c.before ≡ Some bytes →
+pub part_of_line : (cfg : Settings) (d : Drawn) (w r : Put) → ConcludedReportFault cfg d w r → (bytes : List ℕ) → d.before ≡ Some bytes →
     PutsPart r.old r.new (line_of cfg (pictures_in cfg bytes))
-part_of_line cfg c r h bytes told =
+part_of_line cfg d w r h bytes told =
     subst (λ (x : List ℕ). PutsPart r.old r.new x) (line_is cfg (pictures_in cfg bytes) h.totals (h.encoded.totals bytes told)) h.reported.part
 
 -- ---- the status that is due
@@ -167,14 +167,14 @@ due_too_long cfg bytes now h =
     let z : ℕ = length bytes in
     sym (ap (λ (a : Bool). due a (nat_eq (z % p) 0) (z % p)) (lt_below (most_pictures * p) z h.more))
 
-pub complete_case : (cfg : Settings) → IsBuilt cfg → (c : Call) (r : ReportCall) (s : Status) → Concludes cfg c r s → (bytes : List ℕ) → c.before ≡ Some bytes →
-    (Rises c.read_faults_before c.read_faults_now → ⊥) → (Rises c.write_faults_before c.write_faults_now → ⊥) → (Rises r.faults_before r.faults_now → ⊥) →
+pub complete_case : (cfg : Settings) → IsBuilt cfg → (d : Drawn) (w r : Put) (s : Status) → Concludes cfg d w r s → (bytes : List ℕ) → d.before ≡ Some bytes →
+    (Rises d.faults_before d.faults_now → ⊥) → (Rises w.faults_before w.faults_now → ⊥) → (Rises r.faults_before r.faults_now → ⊥) →
     IsDue cfg (length bytes) s
-complete_case cfg b c r Ok h bytes told no_read no_write no_report = inr (due_ok cfg bytes c.now (h.encoded.read bytes told))
-complete_case cfg b c r Words h bytes told no_read no_write no_report = absurd h
-complete_case cfg b c r ReadFault h bytes told no_read no_write no_report = absurd (no_read h.encoded.rises)
-complete_case cfg b c r (ShortPicture have) h bytes told no_read no_write no_report = inr (due_short cfg b have bytes c.now (h.encoded.read bytes told))
-complete_case cfg b c r WriteFault h bytes told no_read no_write no_report = absurd (no_write h.encoded.rises)
-complete_case cfg b c r NoMemory h bytes told no_read no_write no_report = inl refl
-complete_case cfg b c r TooLong h bytes told no_read no_write no_report = inr (due_too_long cfg bytes c.now (h.encoded.read bytes told))
-complete_case cfg b c r ReportFault h bytes told no_read no_write no_report = absurd (no_report h.reported.rises)
+complete_case cfg b d w r Ok h bytes told no_read no_write no_report = inr (due_ok cfg bytes d.now (h.encoded.read bytes told))
+complete_case cfg b d w r Words h bytes told no_read no_write no_report = absurd h
+complete_case cfg b d w r ReadFault h bytes told no_read no_write no_report = absurd (no_read h.encoded.rises)
+complete_case cfg b d w r (ShortPicture have) h bytes told no_read no_write no_report = inr (due_short cfg b have bytes d.now (h.encoded.read bytes told))
+complete_case cfg b d w r WriteFault h bytes told no_read no_write no_report = absurd (no_write h.encoded.rises)
+complete_case cfg b d w r NoMemory h bytes told no_read no_write no_report = inl refl
+complete_case cfg b d w r TooLong h bytes told no_read no_write no_report = inr (due_too_long cfg bytes d.now (h.encoded.read bytes told))
+complete_case cfg b d w r ReportFault h bytes told no_read no_write no_report = absurd (no_report h.reported.rises)

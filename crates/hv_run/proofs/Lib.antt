@@ -1,2 +1,3 @@
-mod PutLemmas
+mod ReportLemmas
 mod ConclusionLemmas
+pub mod CodeLemmas

@@ -1,11 +1,13 @@
 //! The top call of the encoder: from the words of a command line, a source and a sink to a status.
 #![tactic(auto)]
 
+mod known_ends;
 mod report;
 mod run;
 mod status;
 #[cfg(test)]
 mod tests;
 
+pub use known_ends::{encode_in_memory, encode_steady};
 pub use run::run_encode;
 pub use status::Status;

@@ -13,10 +13,10 @@ pub record IsFilled (before now : Option (List ℕ)) (buffer : List ℕ) (filled
   pub inside : filled ≤ length buffer
   pub read : (bytes : List ℕ) → before ≡ Some bytes → Fills bytes now buffer filled
 
--- a piece that is written up to a place
-pub record IsWritten (old new : Option (List ℕ)) (piece : List ℕ) (done : ℕ) : Type 0 where
-  pub inside : done ≤ length piece
-  pub wrote : (had : List ℕ) → old ≡ Some had → new ≡ Some (had ++ take done piece)
+-- bytes that are written up to a place
+pub record IsWritten (old new : Option (List ℕ)) (bytes : List ℕ) (done : ℕ) : Type 0 where
+  pub inside : done ≤ length bytes
+  pub wrote : (had : List ℕ) → old ≡ Some had → new ≡ Some (had ++ take done bytes)
 
 inside_lent : (at k n : ℕ) (into part : List ℕ) → at ≤ length into → n ≤ length part →
     at + n ≤ length (put_mid at k into part)
@@ -47,18 +47,18 @@ one_read before mid now into part at k n f r = record {
       (take_lent into part at k n f.inside r.room);
 }
 
--- one more write of the part of the piece that is left
-pub one_write : (old mid new : Option (List ℕ)) (piece part : List ℕ) (at n : ℕ) → part ≡ drop at piece →
-    IsWritten old mid piece at → Writes mid new part n → IsWritten old new piece (at + n)
-one_write old mid new piece part at n e f w =
-    let w' : Writes mid new (drop at piece) n = subst (λ (p : List ℕ). Writes mid new p n) e w in
+-- one more write of the part of the bytes that is left
+pub one_write : (old mid new : Option (List ℕ)) (bytes part : List ℕ) (at n : ℕ) → part ≡ drop at bytes →
+    IsWritten old mid bytes at → Writes mid new part n → IsWritten old new bytes (at + n)
+one_write old mid new bytes part at n e f w =
+    let w' : Writes mid new (drop at bytes) n = subst (λ (p : List ℕ). Writes mid new p n) e w in
     record {
-      inside = omega (arith, w'.there, length-drop at piece, f.inside);
-      wrote = λ had h. writes_joined had piece mid new at n (f.wrote had h) w';
+      inside = omega (arith, w'.there, length-drop at bytes, f.inside);
+      wrote = λ had h. writes_joined had bytes mid new at n (f.wrote had h) w';
     }
 
--- the part of a piece from a place on, as a slice takes it
-pub rest_of_piece : (piece : List ℕ) (at : ℕ) → take (length piece - at) (drop at piece) ≡ drop at piece
-rest_of_piece piece at =
-    let e : length piece - at ≡ length (drop at piece) = omega (arith, length-drop at piece) in
-    subst (λ (n : ℕ). take n (drop at piece) ≡ drop at piece) (sym e) (take-length (drop at piece))
+-- the part of the bytes from a place on, as a slice takes it
+pub rest_of_bytes : (bytes : List ℕ) (at : ℕ) → take (length bytes - at) (drop at bytes) ≡ drop at bytes
+rest_of_bytes bytes at =
+    let e : length bytes - at ≡ length (drop at bytes) = omega (arith, length-drop at bytes) in
+    subst (λ (n : ℕ). take n (drop at bytes) ≡ drop at bytes) (sym e) (take-length (drop at bytes))

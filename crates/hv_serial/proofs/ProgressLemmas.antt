@@ -14,23 +14,27 @@ use Rattle.hv_model.specs.Encoding.{encode_of, output}
 use Rattle.hv_serial.specs.declared.encode.Totals.{Totals}
 use Rattle.hv_serial.specs.declared.encode.EncodeError.{EncodeError}
 use Rattle.hv_serial.specs.declared.encode.EncodeError.TheVariants.{ReadFault, ShortPicture, WriteFault, NoMemory, TooLong}
-use Rattle.hv_serial.specs.Transfers.{EndsAfter, StopsShort, PutsPart}
-use Rattle.hv_serial.specs.Outcomes.{most_pictures, pictures_in, pictures_read, whole_groups, Grows, WroteGroups}
-use Rattle.hv_serial.specs.Endings.{Call, Told, NoFaults, Ends, EndsOk, EndsReadFault, EndsShort, EndsTooLong, EndsWriteFault, EndsNoMemory, piece_of, TookAll, TookPicture, EndsNext, NextDone, NextNone, NextReadFault, NextShort, NextWriteFault, NextNoMemory}
+use Rattle.hv_serial.specs.Transfers.{Drawn, Put, EndsAfter, StopsShort, Grows, PutsPart}
+use Rattle.hv_serial.specs.Outcomes.{most_pictures, pictures_in, pictures_read, whole_groups, WroteGroups}
+use Rattle.hv_serial.specs.Endings.{Told, NoFaults, Ends, EndsOk, EndsReadFault, EndsShort, EndsTooLong, EndsWriteFault, EndsNoMemory, bytes_of_picture, TookAll, TookPicture, EndsNext, NextDone, NextNone, NextReadFault, NextShort, NextWriteFault, NextNoMemory}
 use Rattle.hv_serial.proofs.GrowthLemmas.{Grows-more, PutsPart-more}
 use Rattle.hv_serial.proofs.StreamLemmas.{stream_output, snoc_of, stream_more}
 use Rattle.hv_serial.proofs.ReadingLemmas.{one_told, all_dropped, picture_number, rest_after, number_read, whole_is, groups_are}
 
-abbrev pub call : (before now old new : Option (List ℕ)) (rb rn wb wn : ℕ) → Call
-call before now old new rb rn wb wn = record {
+abbrev pub reading : (before now : Option (List ℕ)) (faults_before faults_now : ℕ) → Drawn
+reading before now faults_before faults_now = record {
   before = before;
   now = now;
+  faults_before = faults_before;
+  faults_now = faults_now;
+}
+
+abbrev pub writing : (old new : Option (List ℕ)) (faults_before faults_now : ℕ) → Put
+writing old new faults_before faults_now = record {
   old = old;
   new = new;
-  read_faults_before = rb;
-  read_faults_now = rn;
-  write_faults_before = wb;
-  write_faults_now = wn;
+  faults_before = faults_before;
+  faults_now = faults_now;
 }
 
 -- k pictures were taken from these bytes
@@ -39,14 +43,14 @@ pub record HasTaken (p k : ℕ) (bytes : List ℕ) (now : Option (List ℕ)) : T
   pub left : now ≡ Some (drop (k * p) bytes)
 
 -- k pictures are read, encoded and written, whatever their samples are
-pub record IsAt (cfg : Settings) (c : Call) (k : ℕ) (t : Totals) : Type 0 where
-  pub read : Told c (λ bytes. HasTaken (picture_bytes cfg) k bytes c.now)
-  pub wrote : (v : List Picture) → length v ≡ k → Grows c.old c.new (encode_of cfg v)
+pub record IsAt (cfg : Settings) (d : Drawn) (w : Put) (k : ℕ) (t : Totals) : Type 0 where
+  pub read : Told d (λ bytes. HasTaken (picture_bytes cfg) k bytes d.now)
+  pub wrote : (v : List Picture) → length v ≡ k → Grows w.old w.new (encode_of cfg v)
   pub pictures : t.pictures ≡ k
   pub groups : t.groups ≡ k
   pub bytes : (v : List Picture) → length v ≡ k → t.bytes ≡ length (encode_of cfg v)
   pub fits : t.bytes ≤ k * 2 ^ 64
-  pub no_faults : NoFaults c
+  pub no_faults : NoFaults d w
 
 no_pictures : (v : List Picture) → length v ≡ 0 → v ≡ []
 no_pictures [] e = refl
@@ -56,7 +60,7 @@ Grows-none : (old : Option (List ℕ)) → Grows old old []
 Grows-none old had e = e ∙ ap Some (sym (append-nil had))
 
 pub at_start : (cfg : Settings) (now new : Option (List ℕ)) (r w : ℕ) (t : Totals) → t.pictures ≡ 0 → t.groups ≡ 0 → t.bytes ≡ 0 →
-    IsAt cfg (call now now new new r r w w) 0 t
+    IsAt cfg (reading now now r r) (writing new new w w) 0 t
 at_start cfg now new r w t p g b = record {
   read = λ bytes e.
       let none : 0 ≡ 0 * picture_bytes cfg = omega arith in
@@ -82,9 +86,9 @@ taken_more p k bytes mid now h there left = record {
 
 -- one picture more
 pub at_next : (cfg : Settings) (before mid now old midw new : Option (List ℕ)) (rb rm rn wb wm wn k n : ℕ) (t u : Totals) →
-    IsAt cfg (call before mid old midw rb rm wb wm) k t → NextDone cfg (nat_eq k 0) n (call mid now midw new rm rn wm wn) →
+    IsAt cfg (reading before mid rb rm) (writing old midw wb wm) k t → NextDone cfg (nat_eq k 0) n (reading mid now rm rn) (writing midw new wm wn) →
     u.pictures ≡ t.pictures + 1 → u.groups ≡ t.groups + 1 → u.bytes ≡ t.bytes + n →
-    IsAt cfg (call before now old new rb rn wb wn) (k + 1) u
+    IsAt cfg (reading before now rb rn) (writing old new wb wn) (k + 1) u
 at_next cfg before mid now old midw new rb rm rn wb wm wn k n t u a d pictures groups bytes = record {
   read = λ b e.
       let h = a.read b e in
@@ -104,7 +108,7 @@ at_next cfg before mid now old midw new rb rm rn wb wm wn k n t u a d pictures g
         a.bytes s.front s.count,
         d.wrote.count s.last,
         ap length (stream_more cfg k w s),
-        length-append (encode_of cfg s.front) (piece_of cfg (nat_eq k 0) s.last),
+        length-append (encode_of cfg s.front) (bytes_of_picture cfg (nat_eq k 0) s.last),
       );
   fits = omega (arith, a.fits, bytes, d.wrote.fits);
   no_faults = record {
@@ -127,31 +131,31 @@ took_all before now buffer n room few read end bytes e = record {
 }
 
 -- nothing was there
-pub next_none : (c : Call) (buffer : List ℕ) (n room : ℕ) → n ≡ 0 → 0 < room →
-    ((bytes : List ℕ) → c.before ≡ Some bytes → Fills bytes c.now buffer n) → (n < room → EndsAfter c.before n) →
-    c.new ≡ c.old → NoFaults c → NextNone c
-next_none c buffer n room none some read end same faults = record {
-  read = λ bytes e. subst (λ (k : ℕ). TookAll k bytes c.now) none
-      (took_all c.before c.now buffer n room (omega (arith, none, some)) read end bytes e);
+pub next_none : (d : Drawn) (w : Put) (buffer : List ℕ) (n room : ℕ) → n ≡ 0 → 0 < room →
+    ((bytes : List ℕ) → d.before ≡ Some bytes → Fills bytes d.now buffer n) → (n < room → EndsAfter d.before n) →
+    w.new ≡ w.old → NoFaults d w → NextNone d w
+next_none d w buffer n room none some read end same faults = record {
+  read = λ bytes e. subst (λ (k : ℕ). TookAll k bytes d.now) none
+      (took_all d.before d.now buffer n room (omega (arith, none, some)) read end bytes e);
   same = same;
   no_faults = faults;
 }
 
 -- a part of a picture was there
-pub next_short : (cfg : Settings) (c : Call) (buffer : List ℕ) (n room : ℕ) → (n ≡ 0 → ⊥) → n < room → room ≡ picture_bytes cfg →
-    ((bytes : List ℕ) → c.before ≡ Some bytes → Fills bytes c.now buffer n) → (n < room → EndsAfter c.before n) →
-    c.new ≡ c.old → NextShort cfg n c
-next_short cfg c buffer n room not_none few size read end same = record {
+pub next_short : (cfg : Settings) (d : Drawn) (w : Put) (buffer : List ℕ) (n room : ℕ) → (n ≡ 0 → ⊥) → n < room → room ≡ picture_bytes cfg →
+    ((bytes : List ℕ) → d.before ≡ Some bytes → Fills bytes d.now buffer n) → (n < room → EndsAfter d.before n) →
+    w.new ≡ w.old → NextShort cfg n d w
+next_short cfg d w buffer n room not_none few size read end same = record {
   some = omega (arith, not_none);
   few = omega (arith, few, size);
-  read = took_all c.before c.now buffer n room few read end;
+  read = took_all d.before d.now buffer n room few read end;
   same = same;
 }
 
 -- ---- how the next picture ended
 
-pub next_is : (cfg : Settings) (first : Bool) (c : Call) (r s : Result (Option ℕ) EncodeError) → r ≡ s → EndsNext cfg first c r → EndsNext cfg first c s
-next_is cfg first c r s e h = subst (λ (x : Result (Option ℕ) EncodeError). EndsNext cfg first c x) e h
+pub next_is : (cfg : Settings) (first : Bool) (d : Drawn) (w : Put) (r s : Result (Option ℕ) EncodeError) → r ≡ s → EndsNext cfg first d w r → EndsNext cfg first d w s
+next_is cfg first d w r s e h = subst (λ (x : Result (Option ℕ) EncodeError). EndsNext cfg first d w x) e h
 
 -- ---- the end of a video, behind k pictures
 
@@ -166,8 +170,8 @@ groups_written cfg b emit bytes left old new k number wrote =
     subst (λ (x : List ℕ). Grows old new x) (sym (stream_output cfg emit (take m v))) (wrote (take m v) count)
 
 pub at_none : (cfg : Settings) → IsBuilt cfg → cfg.emit ≡ Stream → (before mid now old midw new : Option (List ℕ)) (rb rm rn wb wm wn k : ℕ) (t : Totals) →
-    IsAt cfg (call before mid old midw rb rm wb wm) k t → k ≤ most_pictures → NextNone (call mid now midw new rm rn wm wn) →
-    EndsOk cfg t (call before now old new rb rn wb wn)
+    IsAt cfg (reading before mid rb rm) (writing old midw wb wm) k t → k ≤ most_pictures → NextNone (reading mid now rm rn) (writing midw new wm wn) →
+    EndsOk cfg t (reading before now rb rn) (writing old new wb wn)
 at_none cfg b emit before mid now old midw new rb rm rn wb wm wn k t a few d =
     let p : ℕ = picture_bytes cfg in
     let length_is : (bytes : List ℕ) → before ≡ Some bytes → length bytes ≡ k * p + 0 = λ bytes e.
@@ -199,8 +203,8 @@ at_none cfg b emit before mid now old midw new rb rm rn wb wm wn k t a few d =
     }
 
 pub at_read_fault : (cfg : Settings) → IsBuilt cfg → cfg.emit ≡ Stream → (before mid now old midw new : Option (List ℕ)) (rb rm rn wb wm wn k : ℕ) (t : Totals) →
-    IsAt cfg (call before mid old midw rb rm wb wm) k t → NextReadFault cfg (call mid now midw new rm rn wm wn) →
-    EndsReadFault cfg (call before now old new rb rn wb wn)
+    IsAt cfg (reading before mid rb rm) (writing old midw wb wm) k t → NextReadFault cfg (reading mid now rm rn) (writing midw new wm wn) →
+    EndsReadFault cfg (reading before now rb rn) (writing old new wb wn)
 at_read_fault cfg b emit before mid now old midw new rb rm rn wb wm wn k t a d = record {
   rises = subst (λ (j : ℕ). Rises j rn) a.no_faults.reading d.rises;
   wrote = λ bytes left e f.
@@ -214,8 +218,8 @@ at_read_fault cfg b emit before mid now old midw new rb rm rn wb wm wn k t a d =
 }
 
 pub at_short : (cfg : Settings) → IsBuilt cfg → cfg.emit ≡ Stream → (before mid now old midw new : Option (List ℕ)) (rb rm rn wb wm wn k have : ℕ) (t : Totals) →
-    IsAt cfg (call before mid old midw rb rm wb wm) k t → k < most_pictures → NextShort cfg have (call mid now midw new rm rn wm wn) →
-    EndsShort cfg have (call before now old new rb rn wb wn)
+    IsAt cfg (reading before mid rb rm) (writing old midw wb wm) k t → k < most_pictures → NextShort cfg have (reading mid now rm rn) (writing midw new wm wn) →
+    EndsShort cfg have (reading before now rb rn) (writing old new wb wn)
 at_short cfg b emit before mid now old midw new rb rm rn wb wm wn k have t a few d =
     let p : ℕ = picture_bytes cfg in
     let length_is : (bytes : List ℕ) → before ≡ Some bytes → length bytes ≡ k * p + have = λ bytes e.
@@ -250,8 +254,8 @@ number_with_next cfg b bytes left mid now k h r f =
     (one_told now left (drop ((k + 1) * picture_bytes cfg) bytes) f more.left ∙ ap (λ (n : ℕ). drop n bytes) (sym same))
 
 pub at_write_fault : (cfg : Settings) → IsBuilt cfg → cfg.emit ≡ Stream → (before mid now old midw new : Option (List ℕ)) (rb rm rn wb wm wn k : ℕ) (t : Totals) →
-    IsAt cfg (call before mid old midw rb rm wb wm) k t → NextWriteFault cfg (nat_eq k 0) (call mid now midw new rm rn wm wn) →
-    EndsWriteFault cfg (call before now old new rb rn wb wn)
+    IsAt cfg (reading before mid rb rm) (writing old midw wb wm) k t → NextWriteFault cfg (nat_eq k 0) (reading mid now rm rn) (writing midw new wm wn) →
+    EndsWriteFault cfg (reading before now rb rn) (writing old new wb wn)
 at_write_fault cfg b emit before mid now old midw new rb rm rn wb wm wn k t a d = record {
   rises = subst (λ (j : ℕ). Rises j wn) a.no_faults.writing d.wrote.rises;
   wrote = λ bytes left e f.
@@ -261,19 +265,19 @@ at_write_fault cfg b emit before mid now old midw new rb rm rn wb wm wn k t a d 
       let number : length v ≡ k + 1 = number_with_next cfg b bytes left mid now k h r f in
       let w : List Picture = take (k + 1) v in
       let s = snoc_of k w (omega (arith, length-take-le (k + 1) v (omega (arith, number)))) in
-      let whole : encode_of cfg s.front ++ piece_of cfg (nat_eq k 0) s.last ≡ output cfg w =
+      let whole : encode_of cfg s.front ++ bytes_of_picture cfg (nat_eq k 0) s.last ≡ output cfg w =
       sym (stream_output cfg emit w ∙ stream_more cfg k w s) in
       record {
         m = k + 1;
         groups = record { few = omega (arith, number); whole = inl (sym (whole_is cfg b.group (k + 1))) };
         wrote = subst (λ (x : List ℕ). PutsPart old new x) whole
-            (PutsPart-more old midw new (encode_of cfg s.front) (piece_of cfg (nat_eq k 0) s.last) (a.wrote s.front s.count) (d.wrote.wrote s.last));
+            (PutsPart-more old midw new (encode_of cfg s.front) (bytes_of_picture cfg (nat_eq k 0) s.last) (a.wrote s.front s.count) (d.wrote.wrote s.last));
       };
 }
 
 pub at_no_memory : (cfg : Settings) → IsBuilt cfg → cfg.emit ≡ Stream → (before mid now old midw new : Option (List ℕ)) (rb rm rn wb wm wn k : ℕ) (t : Totals) →
-    IsAt cfg (call before mid old midw rb rm wb wm) k t → NextNoMemory cfg (call mid now midw new rm rn wm wn) →
-    EndsNoMemory cfg (call before now old new rb rn wb wn)
+    IsAt cfg (reading before mid rb rm) (writing old midw wb wm) k t → NextNoMemory cfg (reading mid now rm rn) (writing midw new wm wn) →
+    EndsNoMemory cfg (reading before now rb rn) (writing old new wb wn)
 at_no_memory cfg b emit before mid now old midw new rb rm rn wb wm wn k t a d = record {
   wrote = λ bytes left e f.
       let h = a.read bytes e in
@@ -290,19 +294,19 @@ at_no_memory cfg b emit before mid now old midw new rb rm rn wb wm wn k t a d = 
 }
 
 -- before the first picture
-pub start_no_memory : (cfg : Settings) → IsBuilt cfg → cfg.emit ≡ Stream → (c : Call) → c.new ≡ c.old → EndsNoMemory cfg c
-start_no_memory cfg b emit c same = record {
+pub start_no_memory : (cfg : Settings) → IsBuilt cfg → cfg.emit ≡ Stream → (d : Drawn) (w : Put) → w.new ≡ w.old → EndsNoMemory cfg d w
+start_no_memory cfg b emit d w same = record {
   wrote = λ bytes left e f. record {
     m = 0;
     groups = record { few = omega arith; whole = inl (sym (whole_is cfg b.group 0)) };
-    wrote = subst (λ (x : Option (List ℕ)). Grows c.old x (output cfg [])) (sym same)
-        (subst (λ (x : List ℕ). Grows c.old c.old x) (sym (stream_output cfg emit [])) (Grows-none c.old));
+    wrote = subst (λ (x : Option (List ℕ)). Grows w.old x (output cfg [])) (sym same)
+        (subst (λ (x : List ℕ). Grows w.old w.old x) (sym (stream_output cfg emit [])) (Grows-none w.old));
   };
 }
 
 pub at_too_long : (cfg : Settings) → IsBuilt cfg → cfg.emit ≡ Stream → (before mid now old new : Option (List ℕ)) (rb rm rn wb wn k n room : ℕ) (t : Totals) (buffer : List ℕ) →
-    IsAt cfg (call before mid old new rb rm wb wn) k t → k ≡ most_pictures → (n ≡ 0 → ⊥) → n ≤ room → room ≡ 1 →
-    ((bytes : List ℕ) → mid ≡ Some bytes → Fills bytes now buffer n) → EndsTooLong cfg (call before now old new rb rn wb wn)
+    IsAt cfg (reading before mid rb rm) (writing old new wb wn) k t → k ≡ most_pictures → (n ≡ 0 → ⊥) → n ≤ room → room ≡ 1 →
+    ((bytes : List ℕ) → mid ≡ Some bytes → Fills bytes now buffer n) → EndsTooLong cfg (reading before now rb rn) (writing old new wb wn)
 at_too_long cfg b emit before mid now old new rb rm rn wb wn k n room t buffer a most some few size read =
     let p : ℕ = picture_bytes cfg in
     let one : n ≡ 1 = omega (arith, some, few, size) in
@@ -325,9 +329,9 @@ at_too_long cfg b emit before mid now old new rb rm rn wb wn k n room t buffer a
 
 -- the next picture ended the encoding
 pub at_error : (cfg : Settings) → IsBuilt cfg → cfg.emit ≡ Stream → (before mid now old midw new : Option (List ℕ)) (rb rm rn wb wm wn k : ℕ) (t : Totals) →
-    IsAt cfg (call before mid old midw rb rm wb wm) k t → k < most_pictures →
-    (e : EncodeError) → EndsNext cfg (nat_eq k 0) (call mid now midw new rm rn wm wn) (Err e) →
-    Ends cfg (call before now old new rb rn wb wn) (Err e)
+    IsAt cfg (reading before mid rb rm) (writing old midw wb wm) k t → k < most_pictures →
+    (e : EncodeError) → EndsNext cfg (nat_eq k 0) (reading mid now rm rn) (writing midw new wm wn) (Err e) →
+    Ends cfg (reading before now rb rn) (writing old new wb wn) (Err e)
 at_error cfg b emit before mid now old midw new rb rm rn wb wm wn k t a few ReadFault d =
     at_read_fault cfg b emit before mid now old midw new rb rm rn wb wm wn k t a d
 at_error cfg b emit before mid now old midw new rb rm rn wb wm wn k t a few (ShortPicture have) d =
@@ -339,9 +343,9 @@ at_error cfg b emit before mid now old midw new rb rm rn wb wm wn k t a few NoMe
 at_error cfg b emit before mid now old midw new rb rm rn wb wm wn k t a few TooLong d = absurd d
 
 -- the read behind the last picture failed
-pub byte_fault : (cfg : Settings) → IsBuilt cfg → (c : Call) (room : ℕ) → room ≡ 1 → Rises c.read_faults_before c.read_faults_now →
-    StopsShort c.before c.now room → c.new ≡ c.old → NextReadFault cfg c
-byte_fault cfg b c room one rises stops same = record {
+pub byte_fault : (cfg : Settings) → IsBuilt cfg → (d : Drawn) (w : Put) (room : ℕ) → room ≡ 1 → Rises d.faults_before d.faults_now →
+    StopsShort d.before d.now room → w.new ≡ w.old → NextReadFault cfg d w
+byte_fault cfg b d w room one rises stops same = record {
   rises = rises;
   read = λ bytes e. let s = stops bytes e in
       record {

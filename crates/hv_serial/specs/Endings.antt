@@ -9,31 +9,20 @@ use Rattle.hv_stream_model.specs.Headers.{parameter_sets}
 use Rattle.hv_serial.specs.declared.encode.Totals.{Totals}
 use Rattle.hv_serial.specs.declared.encode.EncodeError.{EncodeError}
 use Rattle.hv_serial.specs.declared.encode.EncodeError.TheVariants.{ReadFault, ShortPicture, WriteFault, NoMemory, TooLong}
-use Rattle.hv_serial.specs.Transfers.{PutsPart, FellShort}
-use Rattle.hv_serial.specs.Outcomes.{pictures_in, group_count, IsReadToEnd, EndsWithin, GoesOn, Grows, WroteGroups, WroteSome, WrotePart}
-
--- what a source and a sink tell, and their counts of faults, before and after a call
-pub record Call : Type 0 where
-  pub before : Option (List ℕ)
-  pub now : Option (List ℕ)
-  pub old : Option (List ℕ)
-  pub new : Option (List ℕ)
-  pub read_faults_before : ℕ
-  pub read_faults_now : ℕ
-  pub write_faults_before : ℕ
-  pub write_faults_now : ℕ
+use Rattle.hv_serial.specs.Transfers.{Drawn, Put, Grows, PutsPart, FellShort}
+use Rattle.hv_serial.specs.Outcomes.{pictures_in, group_count, IsReadToEnd, EndsWithin, GoesOn, WroteGroups, WroteSome, WrotePart}
 
 -- for the bytes that the source had
-abbrev pub Told : Call → (List ℕ → Type 0) → Type 0
-Told c P = (bytes : List ℕ) → c.before ≡ Some bytes → P bytes
+abbrev pub Told : Drawn → (List ℕ → Type 0) → Type 0
+Told d P = (bytes : List ℕ) → d.before ≡ Some bytes → P bytes
 
 -- for the bytes that the source had, and has
-abbrev pub BothTold : Call → (List ℕ → List ℕ → Type 0) → Type 0
-BothTold c P = (bytes left : List ℕ) → c.before ≡ Some bytes → c.now ≡ Some left → P bytes left
+abbrev pub BothTold : Drawn → (List ℕ → List ℕ → Type 0) → Type 0
+BothTold d P = (bytes left : List ℕ) → d.before ≡ Some bytes → d.now ≡ Some left → P bytes left
 
-pub record NoFaults (c : Call) : Type 0 where
-  pub reading : c.read_faults_now ≡ c.read_faults_before
-  pub writing : c.write_faults_now ≡ c.write_faults_before
+pub record NoFaults (d : Drawn) (w : Put) : Type 0 where
+  pub reading : d.faults_now ≡ d.faults_before
+  pub writing : w.faults_now ≡ w.faults_before
 
 -- ---- a video
 
@@ -43,80 +32,64 @@ pub record AreTotals (cfg : Settings) (v : List Picture) (t : Totals) : Type 0 w
   pub groups : t.groups ≡ group_count cfg (length v)
   pub bytes : t.bytes ≡ length (output cfg v)
 
-pub record EndsOk (cfg : Settings) (t : Totals) (c : Call) : Type 0 where
-  pub read : Told c (λ bytes. IsReadToEnd cfg bytes c.now)
-  pub wrote : Told c (λ bytes. Grows c.old c.new (output cfg (pictures_in cfg bytes)))
-  pub totals : Told c (λ bytes. AreTotals cfg (pictures_in cfg bytes) t)
-  pub no_faults : NoFaults c
+pub record EndsOk (cfg : Settings) (t : Totals) (d : Drawn) (w : Put) : Type 0 where
+  pub read : Told d (λ bytes. IsReadToEnd cfg bytes d.now)
+  pub wrote : Told d (λ bytes. Grows w.old w.new (output cfg (pictures_in cfg bytes)))
+  pub totals : Told d (λ bytes. AreTotals cfg (pictures_in cfg bytes) t)
+  pub no_faults : NoFaults d w
 
-pub record EndsReadFault (cfg : Settings) (c : Call) : Type 0 where
-  pub rises : Rises c.read_faults_before c.read_faults_now
-  pub wrote : BothTold c (λ bytes left. WroteGroups cfg bytes left c.old c.new)
+pub record EndsReadFault (cfg : Settings) (d : Drawn) (w : Put) : Type 0 where
+  pub rises : Rises d.faults_before d.faults_now
+  pub wrote : BothTold d (λ bytes left. WroteGroups cfg bytes left w.old w.new)
 
-pub record EndsShort (cfg : Settings) (have : ℕ) (c : Call) : Type 0 where
-  pub read : Told c (λ bytes. EndsWithin cfg have bytes c.now)
-  pub wrote : BothTold c (λ bytes left. WroteGroups cfg bytes left c.old c.new)
+pub record EndsShort (cfg : Settings) (have : ℕ) (d : Drawn) (w : Put) : Type 0 where
+  pub read : Told d (λ bytes. EndsWithin cfg have bytes d.now)
+  pub wrote : BothTold d (λ bytes left. WroteGroups cfg bytes left w.old w.new)
 
-pub record EndsTooLong (cfg : Settings) (c : Call) : Type 0 where
-  pub read : Told c (λ bytes. GoesOn cfg bytes c.now)
-  pub wrote : BothTold c (λ bytes left. WroteGroups cfg bytes left c.old c.new)
+pub record EndsTooLong (cfg : Settings) (d : Drawn) (w : Put) : Type 0 where
+  pub read : Told d (λ bytes. GoesOn cfg bytes d.now)
+  pub wrote : BothTold d (λ bytes left. WroteGroups cfg bytes left w.old w.new)
 
-pub record EndsWriteFault (cfg : Settings) (c : Call) : Type 0 where
-  pub rises : Rises c.write_faults_before c.write_faults_now
-  pub wrote : BothTold c (λ bytes left. WrotePart cfg bytes left c.old c.new)
+pub record EndsWriteFault (cfg : Settings) (d : Drawn) (w : Put) : Type 0 where
+  pub rises : Rises w.faults_before w.faults_now
+  pub wrote : BothTold d (λ bytes left. WrotePart cfg bytes left w.old w.new)
 
-pub record EndsNoMemory (cfg : Settings) (c : Call) : Type 0 where
-  pub wrote : BothTold c (λ bytes left. WroteSome cfg bytes left c.old c.new)
+pub record EndsNoMemory (cfg : Settings) (d : Drawn) (w : Put) : Type 0 where
+  pub wrote : BothTold d (λ bytes left. WroteSome cfg bytes left w.old w.new)
 
-abbrev pub Ends : Settings → Call → Result Totals EncodeError → Type 0
-Ends cfg c (Ok totals) = EndsOk cfg totals c
-Ends cfg c (Err ReadFault) = EndsReadFault cfg c
-Ends cfg c (Err (ShortPicture have)) = EndsShort cfg have c
-Ends cfg c (Err WriteFault) = EndsWriteFault cfg c
-Ends cfg c (Err NoMemory) = EndsNoMemory cfg c
-Ends cfg c (Err TooLong) = EndsTooLong cfg c
+abbrev pub Ends : Settings → Drawn → Put → Result Totals EncodeError → Type 0
+Ends cfg d w (Ok totals) = EndsOk cfg totals d w
+Ends cfg d w (Err ReadFault) = EndsReadFault cfg d w
+Ends cfg d w (Err (ShortPicture have)) = EndsShort cfg have d w
+Ends cfg d w (Err WriteFault) = EndsWriteFault cfg d w
+Ends cfg d w (Err NoMemory) = EndsNoMemory cfg d w
+Ends cfg d w (Err TooLong) = EndsTooLong cfg d w
 
 -- ---- a picture of it
 
 -- what is written of a picture: the parameter sets go out with the first one
-abbrev pub piece_of : Settings → Bool → Picture → List ℕ
-piece_of cfg true picture = parameter_sets cfg ++ picture_unit cfg picture
-piece_of cfg false picture = picture_unit cfg picture
-
--- what a sink tells, and its count of faults, before and after a piece
-pub record Put : Type 0 where
-  pub old : Option (List ℕ)
-  pub new : Option (List ℕ)
-  pub faults_before : ℕ
-  pub faults_now : ℕ
+abbrev pub bytes_of_picture : Settings → Bool → Picture → List ℕ
+bytes_of_picture cfg true picture = parameter_sets cfg ++ picture_unit cfg picture
+bytes_of_picture cfg false picture = picture_unit cfg picture
 
 -- whatever the samples of the picture are
-pub record PutsPiece (cfg : Settings) (first : Bool) (n : ℕ) (w : Put) : Type 0 where
-  pub wrote : (picture : Picture) → Grows w.old w.new (piece_of cfg first picture)
-  pub count : (picture : Picture) → n ≡ length (piece_of cfg first picture)
+pub record PutsPicture (cfg : Settings) (first : Bool) (n : ℕ) (w : Put) : Type 0 where
+  pub wrote : (picture : Picture) → Grows w.old w.new (bytes_of_picture cfg first picture)
+  pub count : (picture : Picture) → n ≡ length (bytes_of_picture cfg first picture)
   pub fits : n < 2 ^ 64
   pub no_fault : w.faults_now ≡ w.faults_before
 
-pub record PutsPartOfPiece (cfg : Settings) (first : Bool) (w : Put) : Type 0 where
+pub record PutsPartOfPicture (cfg : Settings) (first : Bool) (w : Put) : Type 0 where
   pub rises : Rises w.faults_before w.faults_now
-  pub wrote : (picture : Picture) → PutsPart w.old w.new (piece_of cfg first picture)
+  pub wrote : (picture : Picture) → PutsPart w.old w.new (bytes_of_picture cfg first picture)
 
-abbrev pub EndsPiece : Settings → Bool → Put → Result ℕ EncodeError → Type 0
-EndsPiece cfg first w (Ok n) = PutsPiece cfg first n w
-EndsPiece cfg first w (Err ReadFault) = ⊥
-EndsPiece cfg first w (Err (ShortPicture have)) = ⊥
-EndsPiece cfg first w (Err WriteFault) = PutsPartOfPiece cfg first w
-EndsPiece cfg first w (Err NoMemory) = w.new ≡ w.old
-EndsPiece cfg first w (Err TooLong) = ⊥
-
--- the sink of a call
-abbrev pub sink_of : Call → Put
-sink_of c = record {
-  old = c.old;
-  new = c.new;
-  faults_before = c.write_faults_before;
-  faults_now = c.write_faults_now;
-}
+abbrev pub EndsWriting : Settings → Bool → Put → Result ℕ EncodeError → Type 0
+EndsWriting cfg first w (Ok n) = PutsPicture cfg first n w
+EndsWriting cfg first w (Err ReadFault) = ⊥
+EndsWriting cfg first w (Err (ShortPicture have)) = ⊥
+EndsWriting cfg first w (Err WriteFault) = PutsPartOfPicture cfg first w
+EndsWriting cfg first w (Err NoMemory) = w.new ≡ w.old
+EndsWriting cfg first w (Err TooLong) = ⊥
 
 -- a picture was read whole
 pub record TookPicture (cfg : Settings) (bytes : List ℕ) (now : Option (List ℕ)) : Type 0 where
@@ -128,41 +101,41 @@ pub record TookAll (have : ℕ) (bytes : List ℕ) (now : Option (List ℕ)) : T
   pub all : length bytes ≡ have
   pub left : now ≡ Some []
 
-pub record NextDone (cfg : Settings) (first : Bool) (n : ℕ) (c : Call) : Type 0 where
-  pub read : Told c (λ bytes. TookPicture cfg bytes c.now)
-  pub wrote : PutsPiece cfg first n (sink_of c)
-  pub no_fault : c.read_faults_now ≡ c.read_faults_before
+pub record NextDone (cfg : Settings) (first : Bool) (n : ℕ) (d : Drawn) (w : Put) : Type 0 where
+  pub read : Told d (λ bytes. TookPicture cfg bytes d.now)
+  pub wrote : PutsPicture cfg first n w
+  pub no_fault : d.faults_now ≡ d.faults_before
 
-pub record NextNone (c : Call) : Type 0 where
-  pub read : Told c (λ bytes. TookAll 0 bytes c.now)
-  pub same : c.new ≡ c.old
-  pub no_faults : NoFaults c
+pub record NextNone (d : Drawn) (w : Put) : Type 0 where
+  pub read : Told d (λ bytes. TookAll 0 bytes d.now)
+  pub same : w.new ≡ w.old
+  pub no_faults : NoFaults d w
 
-pub record NextReadFault (cfg : Settings) (c : Call) : Type 0 where
-  pub rises : Rises c.read_faults_before c.read_faults_now
-  pub read : Told c (λ bytes. FellShort bytes c.now (picture_bytes cfg))
-  pub same : c.new ≡ c.old
+pub record NextReadFault (cfg : Settings) (d : Drawn) (w : Put) : Type 0 where
+  pub rises : Rises d.faults_before d.faults_now
+  pub read : Told d (λ bytes. FellShort bytes d.now (picture_bytes cfg))
+  pub same : w.new ≡ w.old
 
-pub record NextShort (cfg : Settings) (have : ℕ) (c : Call) : Type 0 where
+pub record NextShort (cfg : Settings) (have : ℕ) (d : Drawn) (w : Put) : Type 0 where
   pub some : 0 < have
   pub few : have < picture_bytes cfg
-  pub read : Told c (λ bytes. TookAll have bytes c.now)
-  pub same : c.new ≡ c.old
+  pub read : Told d (λ bytes. TookAll have bytes d.now)
+  pub same : w.new ≡ w.old
 
-pub record NextWriteFault (cfg : Settings) (first : Bool) (c : Call) : Type 0 where
-  pub read : Told c (λ bytes. TookPicture cfg bytes c.now)
-  pub wrote : PutsPartOfPiece cfg first (sink_of c)
+pub record NextWriteFault (cfg : Settings) (first : Bool) (d : Drawn) (w : Put) : Type 0 where
+  pub read : Told d (λ bytes. TookPicture cfg bytes d.now)
+  pub wrote : PutsPartOfPicture cfg first w
 
-pub record NextNoMemory (cfg : Settings) (c : Call) : Type 0 where
-  pub read : Told c (λ bytes. TookPicture cfg bytes c.now)
-  pub same : c.new ≡ c.old
+pub record NextNoMemory (cfg : Settings) (d : Drawn) (w : Put) : Type 0 where
+  pub read : Told d (λ bytes. TookPicture cfg bytes d.now)
+  pub same : w.new ≡ w.old
 
 -- a picture was encoded, with so many bytes, or the input had ended
-abbrev pub EndsNext : Settings → Bool → Call → Result (Option ℕ) EncodeError → Type 0
-EndsNext cfg first c (Ok (Some n)) = NextDone cfg first n c
-EndsNext cfg first c (Ok None) = NextNone c
-EndsNext cfg first c (Err ReadFault) = NextReadFault cfg c
-EndsNext cfg first c (Err (ShortPicture have)) = NextShort cfg have c
-EndsNext cfg first c (Err WriteFault) = NextWriteFault cfg first c
-EndsNext cfg first c (Err NoMemory) = NextNoMemory cfg c
-EndsNext cfg first c (Err TooLong) = ⊥
+abbrev pub EndsNext : Settings → Bool → Drawn → Put → Result (Option ℕ) EncodeError → Type 0
+EndsNext cfg first d w (Ok (Some n)) = NextDone cfg first n d w
+EndsNext cfg first d w (Ok None) = NextNone d w
+EndsNext cfg first d w (Err ReadFault) = NextReadFault cfg d w
+EndsNext cfg first d w (Err (ShortPicture have)) = NextShort cfg have d w
+EndsNext cfg first d w (Err WriteFault) = NextWriteFault cfg first d w
+EndsNext cfg first d w (Err NoMemory) = NextNoMemory cfg d w
+EndsNext cfg first d w (Err TooLong) = ⊥

@@ -1,11 +1,12 @@
 -- What holds when the top call has answered: of the bytes that a source had `before` the call and has `now`, and of those
 -- that a sink had `old` and has `new`, where source and sink tell their bytes.
-use Rattle.std.specs.Prelude.{◌≡◌, ◌⊎◌, ℕ, ◌+◌, ◌-◌, ◌*◌, ◌/◌, ◌<◌, ◌≤◌, List, [], ◌++◌, length, take, drop, Option, Some}
+use Rattle.std.specs.Prelude.{◌≡◌, ◌⊎◌, ℕ, ◌+◌, ◌-◌, ◌*◌, ◌/◌, ◌<◌, ◌≤◌, List, [], length, take, drop, Option, Some}
 use Rattle.hv_types.specs.declared.settings.Settings.{Settings}
 use Rattle.hv_types.specs.declared.picture.Picture.{Picture}
 use Rattle.hv_types.specs.Configuration.{picture_bytes}
 use Rattle.hv_types.specs.Video.{pictures, rest}
 use Rattle.hv_model.specs.Encoding.{output}
+use Rattle.hv_serial.specs.Transfers.{Grows, PutsPart}
 
 -- ---- what was read
 
@@ -44,10 +45,6 @@ pub record GoesOn (cfg : Settings) (bytes : List ℕ) (now : Option (List ℕ)) 
 
 -- ---- what was written
 
--- the sink has these bytes behind those that it had
-abbrev pub Grows : Option (List ℕ) → Option (List ℕ) → List ℕ → Type 0
-Grows old new bytes = (had : List ℕ) → old ≡ Some had → new ≡ Some (had ++ bytes)
-
 -- the groups of n pictures, of which the last may be smaller
 abbrev pub group_count : Settings → ℕ → ℕ
 group_count cfg n = (n + (cfg.group - 1)) / cfg.group
@@ -79,5 +76,4 @@ pub record WroteSome (cfg : Settings) (bytes left : List ℕ) (old new : Option 
 pub record WrotePart (cfg : Settings) (bytes left : List ℕ) (old new : Option (List ℕ)) : Type 0 where
   pub m : ℕ
   pub groups : AreGroups cfg bytes left m
-  pub wrote : (had : List ℕ) → old ≡ Some had →
-      (n : ℕ) × (new ≡ Some (had ++ take n (output cfg (take m (pictures_read cfg bytes left)))))
+  pub wrote : PutsPart old new (output cfg (take m (pictures_read cfg bytes left)))

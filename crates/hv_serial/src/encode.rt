@@ -5,7 +5,8 @@ ghost use Rattle.hv_types.specs.declared.picture.Picture.{Picture as Shown};
 ghost use Rattle.hv_types.specs.declared.settings.Emit.TheVariants.{Stream};
 ghost use Rattle.hv_types.specs.Configuration.{picture_bytes};
 ghost use Rattle.hv_model.specs.Built.{IsBuilt};
-ghost use Rattle.hv_serial.specs.Endings.{Ends, EndsNext, EndsPiece, piece_of};
+ghost use Rattle.hv_serial.specs.Transfers.{drawn, put};
+ghost use Rattle.hv_serial.specs.Endings.{Ends, EndsNext, EndsWriting, bytes_of_picture};
 
 use crate::parameters::parameter_sets;
 use crate::transfer::{fill, write_all};
@@ -54,16 +55,8 @@ pub fn encode_video<S: Source, K: Sink>(
 ) -> Result<Totals, EncodeError>
     requires built { IsBuilt config.now }
     requires emit { config.now.emit ≡ Stream }
-    ensures { Ends config.now record {
-      before = S.left source.old;
-      now = S.left source.new;
-      old = K.written out.old;
-      new = K.written out.new;
-      read_faults_before = S.faults source.old;
-      read_faults_now = S.faults source.new;
-      write_faults_before = K.faults out.old;
-      write_faults_now = K.faults out.new;
-    } result }
+    ensures { Ends config.now (drawn S.left S.faults source.old source.new)
+        (put K.written K.faults out.old out.new) result }
 {
     let size = config.picture_bytes() as usize;
     let Ok(mut raw) = vec![in alloc; 0u8; size] else {
@@ -117,16 +110,9 @@ fn encode_next<S: Source, K: Sink>(
 ) -> Result<Option<usize>, EncodeError>
     requires built { IsBuilt config.now }
     requires room { length raw.old ≡ picture_bytes config.now }
-    ensures { EndsNext config.now (nat_eq number 0) record {
-      before = S.left source.old;
-      now = S.left source.new;
-      old = K.written out.old;
-      new = K.written out.new;
-      read_faults_before = S.faults source.old;
-      read_faults_now = S.faults source.new;
-      write_faults_before = K.faults out.old;
-      write_faults_now = K.faults out.new;
-    } result }
+    ensures { EndsNext config.now (nat_eq number 0)
+        (drawn S.left S.faults source.old source.new)
+        (put K.written K.faults out.old out.new) result }
 {
     match fill(source, raw) {
         Err(Failed) => Err(EncodeError::ReadFault),
@@ -149,14 +135,10 @@ fn write_picture<K: Sink>(
 ) -> Result<usize, EncodeError>
     requires built { IsBuilt config.now }
     requires whole { length raw.now ≡ picture_bytes config.now }
-    ensures { EndsPiece config.now (nat_eq number 0) record {
-      old = K.written out.old;
-      new = K.written out.new;
-      faults_before = K.faults out.old;
-      faults_now = K.faults out.new;
-    } result }
+    ensures { EndsWriting config.now (nat_eq number 0)
+        (put K.written K.faults out.old out.new) result }
 {
-    let Ok(bytes) = piece(alloc, config, number, raw) else {
+    let Ok(bytes) = encode_picture(alloc, config, number, raw) else {
         return Err(EncodeError::NoMemory);
     };
     let Ok(()) = write_all(out, &bytes) else {
@@ -166,11 +148,16 @@ fn write_picture<K: Sink>(
 }
 
 /// The bytes of the picture of this number, a group of its own, with the parameter sets before the first one.
-fn piece(alloc: Global, config: &Config, number: u32, raw: &[u8]) -> Result<Vec<u8>, NoMemory>
+fn encode_picture(
+    alloc: Global,
+    config: &Config,
+    number: u32,
+    raw: &[u8],
+) -> Result<Vec<u8>, NoMemory>
     requires built { IsBuilt config.now }
     requires whole { length raw.now ≡ picture_bytes config.now }
     ensures { IfOk result (λ bytes.
-        (picture : Shown) → bytes.items ≡ piece_of config.now (nat_eq number 0) picture) }
+        (picture : Shown) → bytes.items ≡ bytes_of_picture config.now (nat_eq number 0) picture) }
 {
     let mut input = GroupInput::new(alloc, *config)?;
     input.push(raw)?;

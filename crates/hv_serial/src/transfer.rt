@@ -2,8 +2,7 @@
 
 ghost use Rattle.std.specs.Prelude.{◌≡◌, ℕ, ◌+◌, ◌<◌, ◌≤◌, List, [], Some, length, drop, IfOk, OnOk, OnErr};
 ghost use Rattle.hv_types.specs.Outside.{Fills, Rises};
-ghost use Rattle.hv_serial.specs.Transfers.{StopsShort, EndsAfter, PutsPart};
-ghost use Rattle.hv_serial.specs.Outcomes.{Grows};
+ghost use Rattle.hv_serial.specs.Transfers.{StopsShort, EndsAfter, Grows, PutsPart};
 
 use hv_types::{Failed, Sink, Source};
 

@@ -1,3 +1,2 @@
 mod ReportLemmas
 mod ConclusionLemmas
-pub mod CodeLemmas

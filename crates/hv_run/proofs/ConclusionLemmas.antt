@@ -4,6 +4,8 @@ use Rattle.std.specs.Prelude.{Option, Some, None, nat_lt, nat_eq, Err}
 use Rattle.std.proofs.lemmas.Nat.{div-add-mod', mul-le}
 use Rattle.std.proofs.Math.Nat.{lt-div-mul-add}
 use Rattle.std.proofs.lemmas.Bool.Decides.{nat_tests}
+use Rattle.hv_lemmas.proofs.ComparisonLemmas.{lt_below, lt_not_below}
+use Rattle.hv_lemmas.proofs.OptionLemmas.{some_same}
 use Rattle.hv_types.specs.declared.settings.Settings.{Settings}
 use Rattle.hv_types.specs.declared.settings.Emit.{Emit}
 use Rattle.hv_types.specs.declared.settings.Emit.TheVariants.{Stream, Recon}
@@ -15,125 +17,85 @@ use Rattle.hv_types.proofs.ConfigurationLemmas.{valid, picture_bytes-least}
 use Rattle.hv_lemmas.proofs.ListLemmas.{length-tabulate}
 use Rattle.hv_model.specs.Built.{IsBuilt, is_built}
 use Rattle.hv_model.proofs.RoundTripLemmas.{built_decided}
-use Rattle.hv_run.specs.declared.words.WordsError.TheVariants.{NotBuilt}
-use Rattle.hv_run.specs.declared.encode.Totals.{Totals}
-use Rattle.hv_run.specs.declared.encode.EncodeError.{EncodeError}
-use Rattle.hv_run.specs.declared.encode.EncodeError.TheVariants as error
+use Rattle.hv_words.specs.declared.words.WordsError.TheVariants.{NotBuilt}
+use Rattle.hv_serial.specs.declared.encode.Totals.{Totals}
+use Rattle.hv_serial.specs.declared.encode.EncodeError.{EncodeError}
+use Rattle.hv_serial.specs.declared.encode.EncodeError.TheVariants as error
 use Rattle.hv_run.specs.declared.status.Status.{Status}
 use Rattle.hv_run.specs.declared.status.Status.TheVariants.{Ok, Words, ReadFault, ShortPicture, WriteFault, NoMemory, TooLong, ReportFault}
-use Rattle.hv_run.specs.CommandLine.{AsksFor, refusal_of_settings, refusal_by, is_accepted, is_stream, is_read}
-use Rattle.hv_run.specs.Transfers.{PutsPart}
-use Rattle.hv_run.specs.Outcomes.{most_pictures, pictures_in, rest_in, group_count, Grows, WroteGroups, IsReadToEnd, EndsWithin, GoesOn}
-use Rattle.hv_run.specs.Endings.{Call, BothTold, Ends, EndsOk, AreTotals}
-use Rattle.hv_run.specs.Report.{ReportCall, Reports, encoded_line, error_line, totals_line, line_of}
+use Rattle.hv_words.specs.CommandLine.{AsksFor}
+use Rattle.hv_words.proofs.AcceptanceLemmas.{same_settings}
+use Rattle.hv_serial.specs.Transfers.{Drawn, Put, Grows, PutsPart}
+use Rattle.hv_serial.specs.Outcomes.{most_pictures, pictures_in, rest_in, group_count, WroteGroups, IsReadToEnd, EndsWithin, GoesOn}
+use Rattle.hv_serial.specs.Endings.{BothTold, Ends, EndsOk, AreTotals}
+use Rattle.hv_run.specs.Report.{Reports, encoded_line, error_line, totals_line, line_of}
 use Rattle.hv_run.specs.Statuses.{is_whole, is_of_input, fixed_line, status_of, Concludes, ConcludedOk, ConcludedReportFault, due, status_due, IsDue}
-use Rattle.hv_run.proofs.ReadingLemmas.{some_same}
-use Rattle.hv_run.proofs.ProgressLemmas.{next_place}
-
--- ---- accepted words ask for one list of settings, which are built
-
--- of four tests, the first and the third
-first_and_third : (a b c d : Bool) → (a && b && c && d) ≡ true → (a ≡ true) × (c ≡ true)
-first_and_third true true true d e = (refl, refl)
-first_and_third true true false d e = cc
-first_and_third true false c d e = cc
-first_and_third false b c d e = cc
-
-not_refused : (t : Bool) → cond t None (Some NotBuilt) ≡ None → t ≡ true
-not_refused true e = refl
-not_refused false e = cc
-
-no_fault : (cfg : Settings) (fault : Option ConfigError) → refusal_by fault cfg ≡ None → (fault ≡ None) × (is_accepted cfg ≡ true)
-no_fault cfg None e = (refl, not_refused (is_accepted cfg) e)
-no_fault cfg (Some error) e = cc
-
-only_stream : (emit : Emit) → is_stream emit ≡ true → emit ≡ Stream
-only_stream Stream e = refl
-only_stream Recon e = cc
-
-accepted : (words : List (List ℕ)) (cfg : Settings) → AsksFor words cfg → (fault_of cfg ≡ None) × (is_accepted cfg ≡ true)
-accepted words cfg a = no_fault cfg (fault_of cfg) (ap refusal_of_settings (sym a.asked) ∙ a.accepted)
-
-pub accepted_built : (words : List (List ℕ)) (cfg : Settings) → AsksFor words cfg → IsBuilt cfg
-accepted_built words cfg a =
-    let h = accepted words cfg a in
-    (built_decided cfg (valid cfg h.0)).0
-    (first_and_third (is_built cfg) (nat_eq cfg.workers 1) (is_stream cfg.emit) (is_read cfg.synth) h.1).0
-
-pub accepted_emit : (words : List (List ℕ)) (cfg : Settings) → AsksFor words cfg → cfg.emit ≡ Stream
-accepted_emit words cfg a =
-    let h = accepted words cfg a in
-    only_stream cfg.emit
-    (first_and_third (is_built cfg) (nat_eq cfg.workers 1) (is_stream cfg.emit) (is_read cfg.synth) h.1).1
-
--- the settings are one
-same_settings : (words : List (List ℕ)) (a b : Settings) → AsksFor words a → AsksFor words b → a ≡ b
-same_settings words a b p q = some_same a b (sym p.asked ∙ q.asked)
+use Rattle.hv_serial.proofs.ProgressLemmas.{next_place}
 
 -- ---- a call that concluded so, for the settings that were asked for
 
-pub concluded : (words : List (List ℕ)) (cfg config : Settings) (c : Call) (r : ReportCall) (s t : Status) → AsksFor words cfg → AsksFor words config →
-    Concludes config c r s → s ≡ t → Concludes cfg c r t
-concluded words cfg config c r s t a b e same =
-    subst (λ (k : Settings). Concludes k c r t) (same_settings words config cfg b a)
-    (subst (λ (u : Status). Concludes config c r u) same e)
+pub concluded : (words : List (List ℕ)) (cfg config : Settings) (d : Drawn) (w r : Put) (s t : Status) → AsksFor words cfg → AsksFor words config →
+    Concludes config d w r s → s ≡ t → Concludes cfg d w r t
+concluded words cfg config d w r s t a b e same =
+    subst (λ (k : Settings). Concludes k d w r t) (same_settings words config cfg b a)
+    (subst (λ (u : Status). Concludes config d w r u) same e)
 
-pub concluded_error : (cfg : Settings) (c : Call) (r : ReportCall) (size : ℕ) (e : EncodeError) (s : Status) → size ≡ picture_bytes cfg → s ≡ status_of e →
-    Ends cfg c (Err e) → Reports r (error_line size e) → Concludes cfg c r s
-concluded_error cfg c r size e s of_picture is ends reports =
-    subst (λ (t : Status). Concludes cfg c r t) (sym is)
-    (error_case cfg c r e ends (subst (λ (n : ℕ). Reports r (error_line n e)) of_picture reports))
+pub concluded_error : (cfg : Settings) (d : Drawn) (w r : Put) (size : ℕ) (e : EncodeError) (s : Status) → size ≡ picture_bytes cfg → s ≡ status_of e →
+    Ends cfg d w (Err e) → Reports r (error_line size e) → Concludes cfg d w r s
+concluded_error cfg d w r size e s of_picture is ends reports =
+    subst (λ (t : Status). Concludes cfg d w r t) (sym is)
+    (error_case cfg d w r e ends (subst (λ (n : ℕ). Reports r (error_line n e)) of_picture reports))
   where
-    error_case : (cfg : Settings) (c : Call) (r : ReportCall) (e : EncodeError) → Ends cfg c (Err e) → Reports r (error_line (picture_bytes cfg) e) → Concludes cfg c r (status_of e)
-    error_case cfg c r error.ReadFault ends reports = record { encoded = ends; reported = reports }
-    error_case cfg c r (error.ShortPicture have) ends reports = record { encoded = ends; reported = reports }
-    error_case cfg c r error.WriteFault ends reports = record { encoded = ends; reported = reports }
-    error_case cfg c r error.NoMemory ends reports = record { encoded = ends; reported = reports }
-    error_case cfg c r error.TooLong ends reports = record { encoded = ends; reported = reports }
+    error_case : (cfg : Settings) (d : Drawn) (w r : Put) (e : EncodeError) → Ends cfg d w (Err e) → Reports r (error_line (picture_bytes cfg) e) → Concludes cfg d w r (status_of e)
+    error_case cfg d w r error.ReadFault ends reports = record { encoded = ends; reported = reports }
+    error_case cfg d w r (error.ShortPicture have) ends reports = record { encoded = ends; reported = reports }
+    error_case cfg d w r error.WriteFault ends reports = record { encoded = ends; reported = reports }
+    error_case cfg d w r error.NoMemory ends reports = record { encoded = ends; reported = reports }
+    error_case cfg d w r error.TooLong ends reports = record { encoded = ends; reported = reports }
 
 -- ---- what the statuses share
 
-pub words_never : (cfg : Settings) (c : Call) (r : ReportCall) (s : Status) → Concludes cfg c r s → s ≡ Words → ⊥
-words_never cfg c r s h e = subst (λ (t : Status). Concludes cfg c r t) e h
+pub words_never : (cfg : Settings) (d : Drawn) (w r : Put) (s : Status) → Concludes cfg d w r s → s ≡ Words → ⊥
+words_never cfg d w r s h e = subst (λ (t : Status). Concludes cfg d w r t) e h
 
 -- the encoding came to its end
-pub record Whole (cfg : Settings) (c : Call) : Type 0 where
+pub record Whole (cfg : Settings) (d : Drawn) (w : Put) : Type 0 where
   pub totals : Totals
-  pub encoded : EndsOk cfg totals c
+  pub encoded : EndsOk cfg totals d w
 
-pub whole_case : (cfg : Settings) (c : Call) (r : ReportCall) (s : Status) → Concludes cfg c r s → is_whole s ≡ true → Whole cfg c
-whole_case cfg c r Ok h e = record { totals = h.totals; encoded = h.encoded }
-whole_case cfg c r Words h e = absurd h
-whole_case cfg c r ReadFault h e = absurd cc
-whole_case cfg c r (ShortPicture have) h e = absurd cc
-whole_case cfg c r WriteFault h e = absurd cc
-whole_case cfg c r NoMemory h e = absurd cc
-whole_case cfg c r TooLong h e = absurd cc
-whole_case cfg c r ReportFault h e = record { totals = h.totals; encoded = h.encoded }
+pub whole_case : (cfg : Settings) (d : Drawn) (w r : Put) (s : Status) → Concludes cfg d w r s → is_whole s ≡ true → Whole cfg d w
+whole_case cfg d w r Ok h e = record { totals = h.totals; encoded = h.encoded }
+whole_case cfg d w r Words h e = absurd h
+whole_case cfg d w r ReadFault h e = absurd cc
+whole_case cfg d w r (ShortPicture have) h e = absurd cc
+whole_case cfg d w r WriteFault h e = absurd cc
+whole_case cfg d w r NoMemory h e = absurd cc
+whole_case cfg d w r TooLong h e = absurd cc
+whole_case cfg d w r ReportFault h e = record { totals = h.totals; encoded = h.encoded }
 
-pub groups_case : (cfg : Settings) (c : Call) (r : ReportCall) (s : Status) → Concludes cfg c r s → is_of_input s ≡ true →
-    BothTold c (λ bytes left. WroteGroups cfg bytes left c.old c.new)
-groups_case cfg c r Ok h e = cc
-groups_case cfg c r Words h e = absurd h
-groups_case cfg c r ReadFault h e = h.encoded.wrote
-groups_case cfg c r (ShortPicture have) h e = h.encoded.wrote
-groups_case cfg c r WriteFault h e = cc
-groups_case cfg c r NoMemory h e = cc
-groups_case cfg c r TooLong h e = h.encoded.wrote
-groups_case cfg c r ReportFault h e = cc
+pub groups_case : (cfg : Settings) (d : Drawn) (w r : Put) (s : Status) → Concludes cfg d w r s → is_of_input s ≡ true →
+    BothTold d (λ bytes left. WroteGroups cfg bytes left w.old w.new)
+groups_case cfg d w r Ok h e = cc
+groups_case cfg d w r Words h e = absurd h
+groups_case cfg d w r ReadFault h e = h.encoded.wrote
+groups_case cfg d w r (ShortPicture have) h e = h.encoded.wrote
+groups_case cfg d w r WriteFault h e = cc
+groups_case cfg d w r NoMemory h e = cc
+groups_case cfg d w r TooLong h e = h.encoded.wrote
+groups_case cfg d w r ReportFault h e = cc
 
-the_line : (r : ReportCall) (a b : List ℕ) → Some a ≡ Some b → Reports r a → Reports r b
+the_line : (r : Put) (a b : List ℕ) → Some a ≡ Some b → Reports r a → Reports r b
 the_line r a b e h = subst (λ (x : List ℕ). Reports r x) (some_same a b e) h
 
-pub line_case : (cfg : Settings) (c : Call) (r : ReportCall) (s : Status) (line : List ℕ) → Concludes cfg c r s → fixed_line s ≡ Some line → Reports r line
-line_case cfg c r Ok line h e = absurd cc
-line_case cfg c r Words line h e = absurd h
-line_case cfg c r ReadFault line h e = the_line r _ line e h.reported
-line_case cfg c r (ShortPicture have) line h e = absurd cc
-line_case cfg c r WriteFault line h e = the_line r _ line e h.reported
-line_case cfg c r NoMemory line h e = the_line r _ line e h.reported
-line_case cfg c r TooLong line h e = the_line r _ line e h.reported
-line_case cfg c r ReportFault line h e = absurd cc
+pub line_case : (cfg : Settings) (d : Drawn) (w r : Put) (s : Status) (line : List ℕ) → Concludes cfg d w r s → fixed_line s ≡ Some line → Reports r line
+line_case cfg d w r Ok line h e = absurd cc
+line_case cfg d w r Words line h e = absurd h
+line_case cfg d w r ReadFault line h e = the_line r _ line e h.reported
+line_case cfg d w r (ShortPicture have) line h e = absurd cc
+line_case cfg d w r WriteFault line h e = the_line r _ line e h.reported
+line_case cfg d w r NoMemory line h e = the_line r _ line e h.reported
+line_case cfg d w r TooLong line h e = the_line r _ line e h.reported
+line_case cfg d w r ReportFault line h e = absurd cc
 
 -- the line of the totals is that of the pictures
 line_is : (cfg : Settings) (v : List Picture) (t : Totals) → AreTotals cfg v t → totals_line t ≡ line_of cfg v
@@ -142,23 +104,17 @@ line_is cfg v t a =
     ∙ ap (λ (n : ℕ). encoded_line (length v) n t.bytes) a.groups
     ∙ ap (λ (n : ℕ). encoded_line (length v) (group_count cfg (length v)) n) a.bytes
 
-pub ok_line : (cfg : Settings) (c : Call) (r : ReportCall) → ConcludedOk cfg c r → (bytes : List ℕ) → c.before ≡ Some bytes →
+pub ok_line : (cfg : Settings) (d : Drawn) (w r : Put) → ConcludedOk cfg d w r → (bytes : List ℕ) → d.before ≡ Some bytes →
     Grows r.old r.new (line_of cfg (pictures_in cfg bytes))
-ok_line cfg c r h bytes told =
+ok_line cfg d w r h bytes told =
     subst (λ (x : List ℕ). Grows r.old r.new x) (line_is cfg (pictures_in cfg bytes) h.totals (h.encoded.totals bytes told)) h.reported.whole
 
-pub part_of_line : (cfg : Settings) (c : Call) (r : ReportCall) → ConcludedReportFault cfg c r → (bytes : List ℕ) → c.before ≡ Some bytes →
+pub part_of_line : (cfg : Settings) (d : Drawn) (w r : Put) → ConcludedReportFault cfg d w r → (bytes : List ℕ) → d.before ≡ Some bytes →
     PutsPart r.old r.new (line_of cfg (pictures_in cfg bytes))
-part_of_line cfg c r h bytes told =
+part_of_line cfg d w r h bytes told =
     subst (λ (x : List ℕ). PutsPart r.old r.new x) (line_is cfg (pictures_in cfg bytes) h.totals (h.encoded.totals bytes told)) h.reported.part
 
 -- ---- the status that is due
-
-lt_true : (a b : ℕ) → a < b → nat_lt a b ≡ true
-lt_true a b h = grind (arith, nat_tests)
-
-lt_false : (a b : ℕ) → b ≤ a → nat_lt a b ≡ false
-lt_false a b h = grind (arith, nat_tests)
 
 eq_true : (a : ℕ) → a ≡ 0 → nat_eq a 0 ≡ true
 eq_true a h = grind (arith, nat_tests)
@@ -191,7 +147,7 @@ due_ok cfg bytes now h =
     let z : ℕ = length bytes in
     let none : z % p ≡ 0 = sym (rest_length cfg bytes) ∙ ap (λ (x : List ℕ). length x) h.no_rest in
     let few : z / p ≤ most_pictures = subst (λ (n : ℕ). n ≤ most_pictures) (length-tabulate _ _) h.few in
-    sym (ap (λ (a : Bool). due a (nat_eq (z % p) 0) (z % p)) (lt_false (most_pictures * p) z (at_most p z most_pictures few none))
+    sym (ap (λ (a : Bool). due a (nat_eq (z % p) 0) (z % p)) (lt_not_below (most_pictures * p) z (at_most p z most_pictures few none))
     ∙ ap (λ (a : Bool). due false a (z % p)) (eq_true (z % p) none))
 
 due_short : (cfg : Settings) → IsBuilt cfg → (have : ℕ) (bytes : List ℕ) (now : Option (List ℕ)) → EndsWithin cfg have bytes now → ShortPicture have ≡ status_due cfg (length bytes)
@@ -202,23 +158,23 @@ due_short cfg b have bytes now h =
     let few : z / p < most_pictures = subst (λ (n : ℕ). n < most_pictures) (length-tabulate _ _) h.few in
     let some : 0 < p = omega (arith, picture_bytes-least cfg b.valid) in
     ap ShortPicture part
-    ∙ sym (ap (λ (a : Bool). due a (nat_eq (z % p) 0) (z % p)) (lt_false (most_pictures * p) z (below p z most_pictures some few))
+    ∙ sym (ap (λ (a : Bool). due a (nat_eq (z % p) 0) (z % p)) (lt_not_below (most_pictures * p) z (below p z most_pictures some few))
     ∙ ap (λ (a : Bool). due false a (z % p)) (eq_false (z % p) (omega (arith, part, h.some))))
 
 due_too_long : (cfg : Settings) (bytes : List ℕ) (now : Option (List ℕ)) → GoesOn cfg bytes now → TooLong ≡ status_due cfg (length bytes)
 due_too_long cfg bytes now h =
     let p : ℕ = picture_bytes cfg in
     let z : ℕ = length bytes in
-    sym (ap (λ (a : Bool). due a (nat_eq (z % p) 0) (z % p)) (lt_true (most_pictures * p) z h.more))
+    sym (ap (λ (a : Bool). due a (nat_eq (z % p) 0) (z % p)) (lt_below (most_pictures * p) z h.more))
 
-pub complete_case : (cfg : Settings) → IsBuilt cfg → (c : Call) (r : ReportCall) (s : Status) → Concludes cfg c r s → (bytes : List ℕ) → c.before ≡ Some bytes →
-    (Rises c.read_faults_before c.read_faults_now → ⊥) → (Rises c.write_faults_before c.write_faults_now → ⊥) → (Rises r.faults_before r.faults_now → ⊥) →
+pub complete_case : (cfg : Settings) → IsBuilt cfg → (d : Drawn) (w r : Put) (s : Status) → Concludes cfg d w r s → (bytes : List ℕ) → d.before ≡ Some bytes →
+    (Rises d.faults_before d.faults_now → ⊥) → (Rises w.faults_before w.faults_now → ⊥) → (Rises r.faults_before r.faults_now → ⊥) →
     IsDue cfg (length bytes) s
-complete_case cfg b c r Ok h bytes told no_read no_write no_report = inr (due_ok cfg bytes c.now (h.encoded.read bytes told))
-complete_case cfg b c r Words h bytes told no_read no_write no_report = absurd h
-complete_case cfg b c r ReadFault h bytes told no_read no_write no_report = absurd (no_read h.encoded.rises)
-complete_case cfg b c r (ShortPicture have) h bytes told no_read no_write no_report = inr (due_short cfg b have bytes c.now (h.encoded.read bytes told))
-complete_case cfg b c r WriteFault h bytes told no_read no_write no_report = absurd (no_write h.encoded.rises)
-complete_case cfg b c r NoMemory h bytes told no_read no_write no_report = inl refl
-complete_case cfg b c r TooLong h bytes told no_read no_write no_report = inr (due_too_long cfg bytes c.now (h.encoded.read bytes told))
-complete_case cfg b c r ReportFault h bytes told no_read no_write no_report = absurd (no_report h.reported.rises)
+complete_case cfg b d w r Ok h bytes told no_read no_write no_report = inr (due_ok cfg bytes d.now (h.encoded.read bytes told))
+complete_case cfg b d w r Words h bytes told no_read no_write no_report = absurd h
+complete_case cfg b d w r ReadFault h bytes told no_read no_write no_report = absurd (no_read h.encoded.rises)
+complete_case cfg b d w r (ShortPicture have) h bytes told no_read no_write no_report = inr (due_short cfg b have bytes d.now (h.encoded.read bytes told))
+complete_case cfg b d w r WriteFault h bytes told no_read no_write no_report = absurd (no_write h.encoded.rises)
+complete_case cfg b d w r NoMemory h bytes told no_read no_write no_report = inl refl
+complete_case cfg b d w r TooLong h bytes told no_read no_write no_report = inr (due_too_long cfg bytes d.now (h.encoded.read bytes told))
+complete_case cfg b d w r ReportFault h bytes told no_read no_write no_report = absurd (no_report h.reported.rises)

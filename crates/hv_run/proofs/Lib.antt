@@ -1,10 +1,2 @@
-pub mod DecimalLemmas
-pub mod TwelveWordLemmas
-pub mod MoveLemmas
-pub mod PuttingLemmas
-pub mod SliceBinLemmas
-pub mod PutLemmas
-pub mod StreamLemmas
-pub mod ReadingLemmas
-pub mod ProgressLemmas
-pub mod ConclusionLemmas
+mod ReportLemmas
+mod ConclusionLemmas

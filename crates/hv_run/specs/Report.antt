@@ -6,13 +6,13 @@ use Rattle.hv_types.specs.declared.settings.ConfigError.TheVariants.{OddSize, Si
 use Rattle.hv_types.specs.declared.picture.Picture.{Picture}
 use Rattle.hv_types.specs.Outside.{Rises}
 use Rattle.hv_model.specs.Encoding.{output}
-use Rattle.hv_run.specs.declared.words.WordsError.{WordsError}
-use Rattle.hv_run.specs.declared.words.WordsError.TheVariants.{Parse, Config, NotBuilt}
-use Rattle.hv_run.specs.declared.encode.Totals.{Totals}
-use Rattle.hv_run.specs.declared.encode.EncodeError.{EncodeError}
-use Rattle.hv_run.specs.declared.encode.EncodeError.TheVariants.{ReadFault, ShortPicture, WriteFault, NoMemory, TooLong}
-use Rattle.hv_run.specs.Transfers.{PutsPart}
-use Rattle.hv_run.specs.Outcomes.{group_count, Grows}
+use Rattle.hv_words.specs.declared.words.WordsError.{WordsError}
+use Rattle.hv_words.specs.declared.words.WordsError.TheVariants.{Parse, Config, NotBuilt}
+use Rattle.hv_serial.specs.declared.encode.Totals.{Totals}
+use Rattle.hv_serial.specs.declared.encode.EncodeError.{EncodeError}
+use Rattle.hv_serial.specs.declared.encode.EncodeError.TheVariants.{ReadFault, ShortPicture, WriteFault, NoMemory, TooLong}
+use Rattle.hv_serial.specs.Transfers.{Put, Grows, PutsPart}
+use Rattle.hv_serial.specs.Outcomes.{group_count}
 
 -- a text and a number in decimal digits
 abbrev pub counted : List ℕ → ℕ → List ℕ
@@ -69,23 +69,18 @@ totals_line t = encoded_line t.pictures t.groups t.bytes
 abbrev pub line_of : Settings → List Picture → List ℕ
 line_of cfg v = encoded_line (length v) (group_count cfg (length v)) (length (output cfg v))
 
--- what a report tells, and its count of faults, before and after a call
-pub record ReportCall : Type 0 where
-  pub old : Option (List ℕ)
-  pub new : Option (List ℕ)
-  pub faults_before : ℕ
-  pub faults_now : ℕ
+-- ---- a report, on both sides of a call
 
 -- the line stands in the report, and nothing failed
-pub record Tells (r : ReportCall) (line : List ℕ) : Type 0 where
+pub record Tells (r : Put) (line : List ℕ) : Type 0 where
   pub whole : Grows r.old r.new line
   pub no_fault : r.faults_now ≡ r.faults_before
 
 -- the report failed, and has a first part of the line
-pub record TellsPart (r : ReportCall) (line : List ℕ) : Type 0 where
+pub record TellsPart (r : Put) (line : List ℕ) : Type 0 where
   pub rises : Rises r.faults_before r.faults_now
   pub part : PutsPart r.old r.new line
 
 -- as far as the report takes the line
-abbrev pub Reports : ReportCall → List ℕ → Type 0
+abbrev pub Reports : Put → List ℕ → Type 0
 Reports r line = Tells r line ⊎ TellsPart r line

@@ -4,12 +4,13 @@ use Rattle.hv_types.specs.declared.settings.Settings.{Settings}
 use Rattle.hv_types.specs.Configuration.{picture_bytes}
 use Rattle.hv_run.specs.declared.status.Status.{Status}
 use Rattle.hv_run.specs.declared.status.Status.TheVariants.{Ok, Words, ReadFault, ShortPicture, WriteFault, NoMemory, TooLong, ReportFault}
-use Rattle.hv_run.specs.declared.encode.Totals.{Totals}
-use Rattle.hv_run.specs.declared.encode.EncodeError.{EncodeError}
-use Rattle.hv_run.specs.declared.encode.EncodeError.TheVariants as error
-use Rattle.hv_run.specs.Outcomes.{most_pictures}
-use Rattle.hv_run.specs.Report.{ReportCall, Tells, TellsPart, Reports, totals_line, short_line, read_fault_line, write_fault_line, no_memory_line, too_long_line}
-use Rattle.hv_run.specs.Endings.{Call, EndsOk, EndsReadFault, EndsShort, EndsWriteFault, EndsNoMemory, EndsTooLong}
+use Rattle.hv_serial.specs.declared.encode.Totals.{Totals}
+use Rattle.hv_serial.specs.declared.encode.EncodeError.{EncodeError}
+use Rattle.hv_serial.specs.declared.encode.EncodeError.TheVariants as error
+use Rattle.hv_serial.specs.Outcomes.{most_pictures}
+use Rattle.hv_run.specs.Report.{Tells, TellsPart, Reports, totals_line, short_line, read_fault_line, write_fault_line, no_memory_line, too_long_line}
+use Rattle.hv_serial.specs.Transfers.{Drawn, Put}
+use Rattle.hv_serial.specs.Endings.{EndsOk, EndsReadFault, EndsShort, EndsWriteFault, EndsNoMemory, EndsTooLong}
 
 -- the exit code of a status
 abbrev pub code_of : Status → ℕ
@@ -68,27 +69,27 @@ pub record Concluded (ends : Type 0) (told : Type 0) : Type 0 where
   pub encoded : ends
   pub reported : told
 
-pub record ConcludedOk (cfg : Settings) (c : Call) (r : ReportCall) : Type 0 where
+pub record ConcludedOk (cfg : Settings) (d : Drawn) (w r : Put) : Type 0 where
   pub totals : Totals
-  pub encoded : EndsOk cfg totals c
+  pub encoded : EndsOk cfg totals d w
   pub reported : Tells r (totals_line totals)
 
-pub record ConcludedReportFault (cfg : Settings) (c : Call) (r : ReportCall) : Type 0 where
+pub record ConcludedReportFault (cfg : Settings) (d : Drawn) (w r : Put) : Type 0 where
   pub totals : Totals
-  pub encoded : EndsOk cfg totals c
+  pub encoded : EndsOk cfg totals d w
   pub reported : TellsPart r (totals_line totals)
 
 -- accepted settings end so
-abbrev pub Concludes : Settings → Call → ReportCall → Status → Type 0
-Concludes cfg c r Ok = ConcludedOk cfg c r
-Concludes cfg c r Words = ⊥
-Concludes cfg c r ReadFault = Concluded (EndsReadFault cfg c) (Reports r read_fault_line)
-Concludes cfg c r (ShortPicture have) =
-    Concluded (EndsShort cfg have c) (Reports r (short_line have (picture_bytes cfg)))
-Concludes cfg c r WriteFault = Concluded (EndsWriteFault cfg c) (Reports r write_fault_line)
-Concludes cfg c r NoMemory = Concluded (EndsNoMemory cfg c) (Reports r no_memory_line)
-Concludes cfg c r TooLong = Concluded (EndsTooLong cfg c) (Reports r too_long_line)
-Concludes cfg c r ReportFault = ConcludedReportFault cfg c r
+abbrev pub Concludes : Settings → Drawn → Put → Put → Status → Type 0
+Concludes cfg d w r Ok = ConcludedOk cfg d w r
+Concludes cfg d w r Words = ⊥
+Concludes cfg d w r ReadFault = Concluded (EndsReadFault cfg d w) (Reports r read_fault_line)
+Concludes cfg d w r (ShortPicture have) =
+    Concluded (EndsShort cfg have d w) (Reports r (short_line have (picture_bytes cfg)))
+Concludes cfg d w r WriteFault = Concluded (EndsWriteFault cfg d w) (Reports r write_fault_line)
+Concludes cfg d w r NoMemory = Concluded (EndsNoMemory cfg d w) (Reports r no_memory_line)
+Concludes cfg d w r TooLong = Concluded (EndsTooLong cfg d w) (Reports r too_long_line)
+Concludes cfg d w r ReportFault = ConcludedReportFault cfg d w r
 
 -- the status of an input that is too long or not, and is whole pictures or has so many bytes of one more
 abbrev pub due : Bool → Bool → ℕ → Status

@@ -1,102 +1,118 @@
-//! The lines of the report. No memory is taken: a line is written part by part.
+//! The lines of the report. Each is made in a buffer on the stack and handed over whole, so that no
+//! memory is taken, and lines of encodings that run side by side aren't torn where the report takes
+//! them in one write.
 
-ghost use Rattle.std.specs.Prelude.{◌≡◌, ◌++◌, OnOk, OnErr, codes};
-ghost use Rattle.hv_run.specs.Report.{Tells, TellsPart, Reports, counted, short_line, words_line, config_line, error_line, totals_line};
+ghost use Rattle.std.specs.Prelude.{◌≡◌, ◌≤◌, ◌+◌, ◌++◌, length, OnOk, OnErr};
+ghost use Rattle.arrayvec.specs.ArrayString.{array_string_len};
+ghost use Rattle.hv_serial.specs.Transfers.{put};
+ghost use Rattle.hv_run.specs.Report.{Tells, TellsPart, Reports, counted, short_line as short_line_of, words_line, config_line};
+ghost use Rattle.hv_run.specs.Report.{error_line as error_line_of, totals_line as totals_line_of};
 
-use crate::encode::{EncodeError, Totals};
-use crate::transfer::write_all;
-use crate::words::WordsError;
+use arrayvec::ArrayString;
+use hv_serial::{EncodeError, Totals, write_all};
 use hv_types::{ConfigError, Failed, Sink};
+use hv_words::WordsError;
 use itoa::Buffer;
 
+/// The most bytes of a number: its digits, and a sign, of 128 bits.
+const NUMBER: usize = 40;
+
+/// The most bytes of a line: those of its texts and of three numbers.
+const LINE: usize = 37 + 3 * NUMBER;
+
+/// A line that is made.
+type Line = ArrayString<LINE>;
+
 /// Writes the line of an encoding that came to its end.
-pub fn report_totals<P: Sink>(report: &mut P, totals: Totals) -> Result<(), Failed>
-    ensures ok { OnOk result (Tells record {
-      old = P.written report.old;
-      new = P.written report.new;
-      faults_before = P.faults report.old;
-      faults_now = P.faults report.new;
-    } (totals_line totals)) }
-    ensures err { OnErr result (TellsPart record {
-      old = P.written report.old;
-      new = P.written report.new;
-      faults_before = P.faults report.old;
-      faults_now = P.faults report.new;
-    } (totals_line totals)) }
+pub(crate) fn report_totals<P: Sink>(report: &mut P, totals: Totals) -> Result<(), Failed>
+    ensures ok { OnOk result
+        (Tells (put P.written P.faults report.old report.new) (totals_line_of totals)) }
+    ensures err { OnErr result
+        (TellsPart (put P.written P.faults report.old report.new) (totals_line_of totals)) }
 {
-    put_counted(report, b"encoded ", totals.pictures as u128)?;
-    put_counted(report, b" pictures in ", totals.groups as u128)?;
-    put_counted(report, b" groups, ", totals.bytes)?;
-    put(report, b" bytes\n")
+    put_line(report, totals_line(totals).as_str())
 }
 
 /// Writes the line of an encoding that didn't, as far as the report takes it. `size` is that of a
 /// picture, in bytes.
-pub fn report_error<P: Sink>(report: &mut P, error: EncodeError, size: u64)
-    ensures { Reports record {
-      old = P.written report.old;
-      new = P.written report.new;
-      faults_before = P.faults report.old;
-      faults_now = P.faults report.new;
-    } (error_line size error) }
+pub(crate) fn report_error<P: Sink>(report: &mut P, error: EncodeError, size: u64)
+    ensures { Reports (put P.written P.faults report.old report.new) (error_line_of size error) }
 {
-    let _ = put_error(report, error, size);
-}
-
-fn put_error<P: Sink>(report: &mut P, error: EncodeError, size: u64) -> Result<(), Failed>
-    ensures ok { OnOk result (Tells record {
-      old = P.written report.old;
-      new = P.written report.new;
-      faults_before = P.faults report.old;
-      faults_now = P.faults report.new;
-    } (error_line size error)) }
-    ensures err { OnErr result (TellsPart record {
-      old = P.written report.old;
-      new = P.written report.new;
-      faults_before = P.faults report.old;
-      faults_now = P.faults report.new;
-    } (error_line size error)) }
-{
-    match error {
-        EncodeError::ReadFault => put(report, b"read fault\n"),
-        EncodeError::ShortPicture { have } => put_short(report, have, size),
-        EncodeError::WriteFault => put(report, b"write fault\n"),
-        EncodeError::NoMemory => put(report, b"no memory\n"),
-        EncodeError::TooLong => put(report, b"more than 400000 pictures\n"),
-    }
-}
-
-fn put_short<P: Sink>(report: &mut P, have: u64, size: u64) -> Result<(), Failed>
-    ensures ok { OnOk result (Tells record {
-      old = P.written report.old;
-      new = P.written report.new;
-      faults_before = P.faults report.old;
-      faults_now = P.faults report.new;
-    } (short_line have size)) }
-    ensures err { OnErr result (TellsPart record {
-      old = P.written report.old;
-      new = P.written report.new;
-      faults_before = P.faults report.old;
-      faults_now = P.faults report.new;
-    } (short_line have size)) }
-{
-    put_counted(report, b"short picture: ", have as u128)?;
-    put_counted(report, b" of ", size as u128)?;
-    put(report, b" bytes\n")
+    let _ = put_line(report, error_line(error, size).as_str());
 }
 
 /// Writes the line of words that are refused, as far as the report takes it.
-pub fn report_refusal<P: Sink>(report: &mut P, error: WordsError)
-    ensures { Reports record {
-      old = P.written report.old;
-      new = P.written report.new;
-      faults_before = P.faults report.old;
-      faults_now = P.faults report.new;
-    } (words_line error) }
+pub(crate) fn report_refusal<P: Sink>(report: &mut P, error: WordsError)
+    ensures { Reports (put P.written P.faults report.old report.new) (words_line error) }
 {
-    let _ = put(report, refusal_text(error).as_bytes());
+    let _ = put_line(report, refusal_text(error));
 }
 
+/// Hands a line over.
+fn put_line<P: Sink>(report: &mut P, line: &str) -> Result<(), Failed>
+    ensures ok { OnOk result (Tells (put P.written P.faults report.old report.new) line.now) }
+    ensures err { OnErr result (TellsPart (put P.written P.faults report.old report.new) line.now) }
+{
+    write_all(report, line.as_bytes())
+}
+
+/// The line of an encoding that came to its end.
+fn totals_line(totals: Totals) -> Line
+    ensures { result.bytes ≡ totals_line_of totals }
+{
+    let mut line = Line::new();
+    put_counted(&mut line, "encoded ", totals.pictures as u128);
+    put_counted(&mut line, " pictures in ", totals.groups as u128);
+    put_counted(&mut line, " groups, ", totals.bytes);
+    line.push_str(" bytes\n");
+    line
+}
+
+/// The line of an encoding of pictures of this size in bytes, that didn't come to its end.
+fn error_line(error: EncodeError, size: u64) -> Line
+    ensures { result.bytes ≡ error_line_of size error }
+{
+    match error {
+        EncodeError::ReadFault => text_line("read fault\n"),
+        EncodeError::ShortPicture { have } => short_line(have, size),
+        EncodeError::WriteFault => text_line("write fault\n"),
+        EncodeError::NoMemory => text_line("no memory\n"),
+        EncodeError::TooLong => text_line("more than 400000 pictures\n"),
+    }
+}
+
+/// The line of an input that ended `have` bytes into a picture of `size` bytes.
+fn short_line(have: u64, size: u64) -> Line
+    ensures { result.bytes ≡ short_line_of have size }
+{
+    let mut line = Line::new();
+    put_counted(&mut line, "short picture: ", have as u128);
+    put_counted(&mut line, " of ", size as u128);
+    line.push_str(" bytes\n");
+    line
+}
+
+/// A line without a number.
+fn text_line(text: &str) -> Line
+    requires room { length text.now ≤ 37 }
+    ensures { result.bytes ≡ text.now }
+{
+    let mut line = Line::new();
+    line.push_str(text);
+    line
+}
+
+/// Puts a text, and a number in decimal digits.
+fn put_counted(line: &mut Line, text: &str, number: u128)
+    requires room { array_string_len line.old + length text.now + 40 ≤ 157 }
+    ensures bytes { line.new.bytes ≡ line.old.bytes ++ counted text.now number }
+    ensures len { array_string_len line.new ≤ array_string_len line.old + length text.now + 40 }
+{
+    line.push_str(text);
+    line.push_str(Buffer::new().format(number));
+}
+
+/// The line of words that are refused.
 fn refusal_text(error: WordsError) -> &'static str
     ensures { result.now ≡ words_line error }
 {
@@ -107,6 +123,7 @@ fn refusal_text(error: WordsError) -> &'static str
     }
 }
 
+/// The line of settings with a fault.
 fn config_text(error: ConfigError) -> &'static str
     ensures { result.now ≡ config_line error }
 {
@@ -116,40 +133,4 @@ fn config_text(error: ConfigError) -> &'static str
         ConfigError::GroupTooLarge => "group too large\n",
         ConfigError::OutOfRange { field: _ } => "value out of range\n",
     }
-}
-
-/// Writes a text, and a number in decimal digits.
-fn put_counted<P: Sink>(report: &mut P, text: &[u8], number: u128) -> Result<(), Failed>
-    ensures ok { OnOk result (Tells record {
-      old = P.written report.old;
-      new = P.written report.new;
-      faults_before = P.faults report.old;
-      faults_now = P.faults report.new;
-    } (counted text.now number)) }
-    ensures err { OnErr result (TellsPart record {
-      old = P.written report.old;
-      new = P.written report.new;
-      faults_before = P.faults report.old;
-      faults_now = P.faults report.new;
-    } (counted text.now number)) }
-{
-    put(report, text)?;
-    put(report, Buffer::new().format(number).as_bytes())
-}
-
-fn put<P: Sink>(report: &mut P, text: &[u8]) -> Result<(), Failed>
-    ensures ok { OnOk result (Tells record {
-      old = P.written report.old;
-      new = P.written report.new;
-      faults_before = P.faults report.old;
-      faults_now = P.faults report.new;
-    } (text.now)) }
-    ensures err { OnErr result (TellsPart record {
-      old = P.written report.old;
-      new = P.written report.new;
-      faults_before = P.faults report.old;
-      faults_now = P.faults report.new;
-    } (text.now)) }
-{
-    write_all(report, text)
 }

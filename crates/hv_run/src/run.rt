@@ -1,6 +1,6 @@
 //! The top call.
 
-ghost use Rattle.std.specs.Prelude.{◌≡◌, ◌⊎◌, ℕ, List, Some, length, IsTrue};
+ghost use Rattle.std.specs.Prelude.{◌≡◌, ℕ, List, Some, length, IsTrue};
 ghost use Rattle.hv_types.specs.declared.settings.Settings.{Settings as SettingsSeen};
 ghost use Rattle.hv_types.specs.declared.picture.Picture.{Picture as PictureSeen};
 ghost use Rattle.hv_types.specs.declared.settings.Emit.TheVariants.{Stream};
@@ -9,20 +9,20 @@ ghost use Rattle.hv_types.specs.Outside.{Rises};
 ghost use Rattle.hv_model.specs.Built.{IsBuilt};
 ghost use Rattle.hv_model.specs.Decoding.{decode_of};
 ghost use Rattle.hv_model.specs.Encoding.{encode_of, recon_of, output};
-ghost use Rattle.hv_run.specs.declared.words.WordsError.{WordsError as WordsErrorSeen};
-ghost use Rattle.hv_run.specs.CommandLine.{AsksFor, IsRefused, refusal};
-ghost use Rattle.hv_run.specs.Transfers.{PutsPart};
-ghost use Rattle.hv_run.specs.Outcomes.{pictures_in, IsReadToEnd, EndsWithin, GoesOn, Grows};
-ghost use Rattle.hv_run.specs.Outcomes.{WroteGroups, WroteSome, WrotePart};
+ghost use Rattle.hv_words.specs.declared.words.WordsError.{WordsError as WordsErrorSeen};
+ghost use Rattle.hv_words.specs.CommandLine.{AsksFor, IsRefused, refusal};
+ghost use Rattle.hv_serial.specs.Transfers.{drawn, put, Grows, PutsPart};
+ghost use Rattle.hv_serial.specs.Outcomes.{pictures_in, IsReadToEnd, EndsWithin, GoesOn};
+ghost use Rattle.hv_serial.specs.Outcomes.{WroteGroups, WroteSome, WrotePart};
 ghost use Rattle.hv_run.specs.Report.{Reports, line_of, short_line, words_line};
 ghost use Rattle.hv_run.specs.Statuses.{is_whole, is_of_input, fixed_line, IsDue, Concludes};
 ghost use Rattle.hv_run.specs.Statuses.{status_of as status_of_error};
 
-use crate::encode::{EncodeError, encode_video};
 use crate::report::{report_error, report_refusal, report_totals};
 use crate::status::Status;
-use crate::words::config_of_words;
+use hv_serial::{EncodeError, encode_video};
 use hv_types::{Config, Failed, Gate, Sink, Source, Words};
+use hv_words::config_of_words;
 use std::alloc::Global;
 use std::sync::Wait;
 use std::thread::Threads;
@@ -69,7 +69,7 @@ pub fn run_encode<S: Source, K: Sink, P: Sink, G: Gate, R: Threads + Wait + Sync
 
     // The words are refused, and nothing is touched.
     ensures words_only { result ≡ Status.Words → IsRefused words.now }
-    ensures words_unless_memory { IsRefused words.now → (result ≡ Status.Words) ⊎ (result ≡ Status.NoMemory) }
+    ensures words_then { IsRefused words.now → result ≡ Status.Words }
     ensures words_source { IsRefused words.now → source.new ≡ source.old }
     ensures words_out { IsRefused words.now → out.new ≡ out.old }
 
@@ -105,27 +105,12 @@ pub fn run_encode<S: Source, K: Sink, P: Sink, G: Gate, R: Threads + Wait + Sync
         PutsPart (P.written report.old) (P.written report.new) (line_of cfg (pictures_in cfg bytes)) }
     ensures words_report { (error : WordsErrorSeen) →
         refusal words.now ≡ Some error → result ≡ Status.Words →
-        Reports record {
-          old = P.written report.old;
-          new = P.written report.new;
-          faults_before = P.faults report.old;
-          faults_now = P.faults report.new;
-        } (words_line error) }
+        Reports (put P.written P.faults report.old report.new) (words_line error) }
     ensures short_report { (cfg : SettingsSeen) (have : ℕ) → AsksFor words.now cfg →
         result ≡ Status.ShortPicture have →
-        Reports record {
-          old = P.written report.old;
-          new = P.written report.new;
-          faults_before = P.faults report.old;
-          faults_now = P.faults report.new;
-        } (short_line have (picture_bytes cfg)) }
+        Reports (put P.written P.faults report.old report.new) (short_line have (picture_bytes cfg)) }
     ensures other_report { (line : List ℕ) → fixed_line result ≡ Some line →
-        Reports record {
-          old = P.written report.old;
-          new = P.written report.new;
-          faults_before = P.faults report.old;
-          faults_now = P.faults report.new;
-        } line }
+        Reports (put P.written P.faults report.old report.new) line }
 
     // Where nothing fails, the length of the input says how it ends.
     ensures complete { (cfg : SettingsSeen) (bytes : List ℕ) → AsksFor words.now cfg →
@@ -154,21 +139,9 @@ fn encode_and_report<S: Source, K: Sink, P: Sink>(
 ) -> Status
     requires built { IsBuilt config.now }
     requires emit { config.now.emit ≡ Stream }
-    ensures { Concludes config.now record {
-      before = S.left source.old;
-      now = S.left source.new;
-      old = K.written out.old;
-      new = K.written out.new;
-      read_faults_before = S.faults source.old;
-      read_faults_now = S.faults source.new;
-      write_faults_before = K.faults out.old;
-      write_faults_now = K.faults out.new;
-    } record {
-      old = P.written report.old;
-      new = P.written report.new;
-      faults_before = P.faults report.old;
-      faults_now = P.faults report.new;
-    } result }
+    ensures { Concludes config.now (drawn S.left S.faults source.old source.new)
+        (put K.written K.faults out.old out.new)
+        (put P.written P.faults report.old report.new) result }
 {
     match encode_video(alloc, config, source, out) {
         Ok(totals) => match report_totals(report, totals) {

@@ -60,86 +60,77 @@ fn small(alloc: Global, at_most: u32, failing: &[u64]) -> Result<MemorySink, NoM
     MemorySink::new(alloc, 100, at_most.max(1), failing.to_vec(alloc)?)
 }
 
+/// What an encoding is tried with: how many bytes the source has and gives a call, how many a sink and
+/// the report take a call, and the number of the call of each that fails.
+#[derive(Clone, Copy)]
+struct Trial {
+    bytes: usize,
+    given: u32,
+    taken: u32,
+    told: u32,
+    failing_read: u64,
+    failing_write: u64,
+    failing_line: u64,
+}
+
+/// A trial of so many bytes of input, in which no call fails and each moves all that there is.
+fn trial_of(bytes: usize) -> Trial {
+    Trial {
+        bytes,
+        given: 9000,
+        taken: 100,
+        told: 100,
+        failing_read: 99,
+        failing_write: 99,
+        failing_line: 99,
+    }
+}
+
 /// Encodes, and sees how that ends, how much of the stream is then written, and what is reported.
 fn see<R: Abort + Threads + Wait + Sync>(
     rt: &R,
     alloc: Global,
-    mut source: MemorySource,
-    mut out: MemorySink,
-    mut told: MemorySink,
+    trial: Trial,
     want: (Status, usize),
-    report: &str,
+    line: &str,
 ) -> Result<(), Fail> {
     let words = words_of(alloc, COMMAND)?;
+    let mut source = grey(alloc, trial.bytes, trial.given, &[trial.failing_read])?;
+    let mut out = small(alloc, trial.taken, &[trial.failing_write])?;
+    let mut report = small(alloc, trial.told, &[trial.failing_line])?;
     let status = run_encode(
         rt,
         alloc,
         &words,
         &mut source,
         &mut out,
-        &mut told,
+        &mut report,
         &OpenGate,
     );
-    assert_eq!(rt; status, want.0, "{report}");
-    assert_eq!(rt; Some(out.written()), STREAM.get(..want.1), "{report}");
-    assert_eq!(rt; told.written(), report.as_bytes());
+    assert_eq!(rt; status, want.0, "{line}");
+    assert_eq!(rt; Some(out.written()), STREAM.get(..want.1), "{line}");
+    assert_eq!(rt; report.written(), line.as_bytes());
     Ok(())
 }
 
 /// Nothing, less than a picture, one, one and a byte, and two, by few or many bytes a call.
 #[test]
+#[rattlefmt::skip]
 fn inputs_of_all_lengths(rt: HostRuntime) -> Result<(), Fail> {
-    for (bytes, status, written, report) in [
-        (
-            0,
-            Status::Ok,
-            0,
-            "encoded 0 pictures in 0 groups, 0 bytes\n",
-        ),
-        (
-            1,
-            Status::ShortPicture { have: 1 },
-            0,
-            "short picture: 1 of 6144 bytes\n",
-        ),
-        (
-            6143,
-            Status::ShortPicture { have: 6143 },
-            0,
-            "short picture: 6143 of 6144 bytes\n",
-        ),
-        (
-            6144,
-            Status::Ok,
-            80,
-            "encoded 1 pictures in 1 groups, 80 bytes\n",
-        ),
-        (
-            6145,
-            Status::ShortPicture { have: 1 },
-            80,
-            "short picture: 1 of 6144 bytes\n",
-        ),
-        (
-            12288,
-            Status::Ok,
-            92,
-            "encoded 2 pictures in 2 groups, 92 bytes\n",
-        ),
+    for (bytes, status, written, line) in [
+        (0, Status::Ok, 0, "encoded 0 pictures in 0 groups, 0 bytes\n"),
+        (1, Status::ShortPicture { have: 1 }, 0, "short picture: 1 of 6144 bytes\n"),
+        (6143, Status::ShortPicture { have: 6143 }, 0, "short picture: 6143 of 6144 bytes\n"),
+        (6144, Status::Ok, 80, "encoded 1 pictures in 1 groups, 80 bytes\n"),
+        (6145, Status::ShortPicture { have: 1 }, 80, "short picture: 1 of 6144 bytes\n"),
+        (12288, Status::Ok, 92, "encoded 2 pictures in 2 groups, 92 bytes\n"),
     ] {
         for (given, taken) in [(1, 1), (7, 3), (9000, 100)] {
-            let source = grey(rt.alloc(), bytes, given, &[])?;
-            let out = small(rt.alloc(), taken, &[])?;
-            let told = small(rt.alloc(), taken, &[])?;
-            see(
-                &rt,
-                rt.alloc(),
-                source,
-                out,
-                told,
-                (status, written),
-                report,
-            )?;
+            let mut trial = trial_of(bytes);
+            trial.given = given;
+            trial.taken = taken;
+            trial.told = taken;
+            see(&rt, rt.alloc(), trial, (status, written), line)?;
         }
     }
     Ok(())
@@ -148,8 +139,9 @@ fn inputs_of_all_lengths(rt: HostRuntime) -> Result<(), Fail> {
 /// The number is that of the call that fails: two reads a picture and one behind them, and four
 /// writes of the first picture and one of the second.
 #[test]
+#[rattlefmt::skip]
 fn calls_that_fail(rt: HostRuntime) -> Result<(), Fail> {
-    for (read, write, status, written, report) in [
+    for (read, write, status, written, line) in [
         (0, 9, Status::ReadFault, 0, "read fault\n"),
         (1, 9, Status::ReadFault, 0, "read fault\n"),
         (2, 9, Status::ReadFault, 80, "read fault\n"),
@@ -157,112 +149,84 @@ fn calls_that_fail(rt: HostRuntime) -> Result<(), Fail> {
         (9, 0, Status::WriteFault, 0, "write fault\n"),
         (9, 1, Status::WriteFault, 20, "write fault\n"),
         (9, 4, Status::WriteFault, 80, "write fault\n"),
-        (
-            9,
-            9,
-            Status::Ok,
-            92,
-            "encoded 2 pictures in 2 groups, 92 bytes\n",
-        ),
+        (9, 9, Status::Ok, 92, "encoded 2 pictures in 2 groups, 92 bytes\n"),
     ] {
-        let source = grey(rt.alloc(), 12288, 3072, &[read])?;
-        let out = small(rt.alloc(), 20, &[write])?;
-        let told = small(rt.alloc(), 100, &[])?;
-        see(
-            &rt,
-            rt.alloc(),
-            source,
-            out,
-            told,
-            (status, written),
-            report,
-        )?;
+        let mut trial = trial_of(12288);
+        trial.given = 3072;
+        trial.taken = 20;
+        trial.failing_read = read;
+        trial.failing_write = write;
+        see(&rt, rt.alloc(), trial, (status, written), line)?;
     }
     Ok(())
 }
 
-/// A report that fails changes no status but `Ok`, and the output is whole then.
+/// A report that fails changes no status but `Ok`, and the output is whole then. A report that takes
+/// all that there is has the line in one write: the second one would fail.
 #[test]
+#[rattlefmt::skip]
 fn reports_that_fail(rt: HostRuntime) -> Result<(), Fail> {
-    for (bytes, fails_at, status, written, report) in [
-        (6144, 0, Status::ReportFault, 80, ""),
-        (6144, 1, Status::ReportFault, 80, "encod"),
-        (6144, 2, Status::ReportFault, 80, "encoded "),
-        (6145, 0, Status::ShortPicture { have: 1 }, 80, ""),
+    for (bytes, told, fails_at, status, line) in [
+        (6144, 5, 0, Status::ReportFault, ""),
+        (6144, 5, 1, Status::ReportFault, "encod"),
+        (6144, 5, 2, Status::ReportFault, "encoded 1 "),
+        (6144, 100, 1, Status::Ok, "encoded 1 pictures in 1 groups, 80 bytes\n"),
+        (6145, 5, 0, Status::ShortPicture { have: 1 }, ""),
+        (6145, 100, 1, Status::ShortPicture { have: 1 }, "short picture: 1 of 6144 bytes\n"),
     ] {
-        let source = grey(rt.alloc(), bytes, 9000, &[])?;
-        let out = small(rt.alloc(), 100, &[])?;
-        let told = small(rt.alloc(), 5, &[fails_at])?;
-        see(
-            &rt,
-            rt.alloc(),
-            source,
-            out,
-            told,
-            (status, written),
-            report,
-        )?;
+        let mut trial = trial_of(bytes);
+        trial.told = told;
+        trial.failing_line = fails_at;
+        see(&rt, rt.alloc(), trial, (status, 80), line)?;
     }
     Ok(())
 }
 
 /// Source and sink fail at their first call, which the test makes itself.
 #[test]
+#[rattlefmt::skip]
 fn words_that_are_refused(rt: HostRuntime) -> Result<(), Fail> {
     for (line, report) in [
         ("", "bad words\n"),
-        (
-            "--width 64 --height 64 --qp 26 --levels 0 --group 1 --speed 0",
-            "bad words\n",
-        ),
-        (
-            "--width 64 --height 64 --qp 26 --levels 0 --group 1 --effort 0 more",
-            "bad words\n",
-        ),
-        (
-            "--width 64 --height 64 --qp +26 --levels 0 --group 1 --effort 0",
-            "bad words\n",
-        ),
-        (
-            "--width 65 --height 64 --qp 26 --levels 0 --group 1 --effort 0",
-            "odd size\n",
-        ),
-        (
-            "--width 64 --height 2178 --qp 26 --levels 0 --group 1 --effort 0",
-            "size out of range\n",
-        ),
-        (
-            "--width 4096 --height 2176 --qp 26 --levels 0 --group 31 --effort 0",
-            "group too large\n",
-        ),
-        (
-            "--width 64 --height 64 --qp 52 --levels 0 --group 1 --effort 0",
-            "value out of range\n",
-        ),
-        (
-            "--width 64 --height 64 --qp 26 --levels 0 --group 2 --effort 0",
-            "not built\n",
-        ),
+        ("--width 64 --height 64 --qp 26 --levels 0 --group 1 --speed 0", "bad words\n"),
+        ("--width 64 --height 64 --qp 26 --levels 0 --group 1 --effort 0 more", "bad words\n"),
+        ("--width 64 --height 64 --qp +26 --levels 0 --group 1 --effort 0", "bad words\n"),
+        ("--width 65 --height 64 --qp 26 --levels 0 --group 1 --effort 0", "odd size\n"),
+        ("--width 64 --height 2178 --qp 26 --levels 0 --group 1 --effort 0", "size out of range\n"),
+        ("--width 4096 --height 2176 --qp 26 --levels 0 --group 31 --effort 0", "group too large\n"),
+        ("--width 64 --height 64 --qp 52 --levels 0 --group 1 --effort 0", "value out of range\n"),
+        ("--width 64 --height 64 --qp 26 --levels 0 --group 2 --effort 0", "not built\n"),
     ] {
-        let words = words_of(rt.alloc(), line)?;
-        let mut source = grey(rt.alloc(), 6144, 9000, &[0])?;
-        let mut out = small(rt.alloc(), 80, &[0])?;
-        let mut told = small(rt.alloc(), 80, &[])?;
-        let status = run_encode(
-            &rt,
-            rt.alloc(),
-            &words,
-            &mut source,
-            &mut out,
-            &mut told,
-            &OpenGate,
-        );
-        assert_eq!(rt; status, Status::Words, "{line}");
-        assert_eq!(rt; told.written(), report.as_bytes(), "{line}");
-        assert_eq!(rt; source.read(&mut [0; 1]), Err(Failed), "{line}");
-        assert_eq!(rt; out.write(&[0]), Err(Failed), "{line}");
-        assert_eq!(rt; out.written(), [].as_slice(), "{line}");
+        refuses(&rt, rt.alloc(), line, report)?;
     }
+    Ok(())
+}
+
+/// Sees that the words of a line are refused, and nothing is read or written.
+fn refuses<R: Abort + Threads + Wait + Sync>(
+    rt: &R,
+    alloc: Global,
+    line: &str,
+    want: &str,
+) -> Result<(), Fail> {
+    let words = words_of(alloc, line)?;
+    let mut source = grey(alloc, 6144, 9000, &[0])?;
+    let mut out = small(alloc, 80, &[0])?;
+    let mut report = small(alloc, 80, &[])?;
+    let status = run_encode(
+        rt,
+        alloc,
+        &words,
+        &mut source,
+        &mut out,
+        &mut report,
+        &OpenGate,
+    );
+    assert_eq!(rt; status, Status::Words, "{line}");
+    assert_eq!(rt; report.written(), want.as_bytes(), "{line}");
+    assert_eq!(rt; source.read(&mut [0; 1]), Err(Failed), "{line}");
+    assert_eq!(rt; out.write(&[0]), Err(Failed), "{line}");
+    assert_eq!(rt; out.written(), [].as_slice(), "{line}");
     Ok(())
 }
 

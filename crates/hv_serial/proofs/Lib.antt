@@ -1,0 +1,5 @@
+mod MoveLemmas
+pub mod GrowthLemmas
+mod StreamLemmas
+pub mod ReadingLemmas
+pub mod ProgressLemmas

@@ -1,0 +1,16 @@
+-- The group has the settings that it was made with.
+use Rattle.std.proofs.Common.{ap, ◌∙◌, eq-eqb, ne_eqb}
+use Rattle.std.specs.Prelude.{nat_eq}
+use Rattle.hv_serial.proofs.StreamLemmas.{later_bytes, first_bytes}
+use Rattle.hv_serial.proofs.encode.encode_picture.Goals as goal
+
+pub returns-then-not-first : goal.returns-then-not-first
+returns-then-not-first c picture =
+    later_bytes c.args.config.now c.push.new.self.config (nat_eq c.args.number 0) _ picture (ne_eqb c.args.number 0 c.if-not-first.true)
+    (ap (λ g. g.config) c.in_ok-push.ensures.ok ∙ ap (λ g. g.config) c.in_ok-input.ensures) (c.in_ok-unit.ensures picture)
+
+pub returns : goal.returns
+returns c picture =
+    first_bytes c.args.config.now c.push.new.self.config (nat_eq c.args.number 0) _ c.in_ok-bytes.bytes.items c.deref.result.now picture (eq-eqb c.args.number 0 c.if-not-first.false)
+    (ap (λ g. g.config) c.in_ok-push.ensures.ok ∙ ap (λ g. g.config) c.in_ok-input.ensures)
+    c.in_ok-extend_from_slice.ensures.items c.in_ok-bytes.ensures (c.deref.ensures.value ∙ c.in_ok-unit.ensures picture)

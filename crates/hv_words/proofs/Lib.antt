@@ -1,0 +1,3 @@
+mod DecimalLemmas
+mod TwelveWordLemmas
+pub mod AcceptanceLemmas

@@ -1,5 +1,5 @@
 -- Tests of numbers, and truth values that they give: what they are where the numbers' order is known.
-use Rattle.std.proofs.Common.{◌≡◌, ℕ, zero, suc, ◌<◌, ◌≤◌, Bool, true, false, refl, arith, nat_lt, ◌||◌}
+use Rattle.std.proofs.Common.{◌≡◌, ℕ, suc, ◌<◌, ◌≤◌, Bool, true, false, refl, arith, nat_lt, ◌||◌}
 use Rattle.std.proofs.lemmas.Bool.Decides.{nat_tests}
 
 pub lt_below : (a b : ℕ) → a < b → nat_lt a b ≡ true

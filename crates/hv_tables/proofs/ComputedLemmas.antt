@@ -1,11 +1,11 @@
 -- What is computed once over a whole table holds of each of its entries.
-use Rattle.std.proofs.Common.{◌≡◌, ℕ, ◌<◌, Bool, true, List, [], ℤ, pos, slice_index_or}
+use Rattle.std.proofs.Common.{◌≡◌, ℕ, Bool, true, List, [], ℤ, pos, slice_index_or}
 use Rattle.hv_lemmas.proofs.ComputedLemmas.{all_below, holds_below}
 use Rattle.hv_tables.specs.Tables.{HasEntries}
 use Rattle.std.specs.Ordering.{int_eq}
 use Rattle.std.proofs.lemmas.Bool.Decides.{Decides-int_eq}
 
-equal_numbers : (x y : ℤ) → int_eq x y ≡ true → x ≡ y
+pub equal_numbers : (x y : ℤ) → int_eq x y ≡ true → x ≡ y
 equal_numbers x y h = (Decides-int_eq x y).0 h
 
 abbrev pub has_entry : List (List ℤ) → (ℕ → ℕ → ℤ) → ℕ → ℕ → Bool

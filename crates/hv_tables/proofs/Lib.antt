@@ -1,1 +1,5 @@
 pub mod ComputedLemmas
+pub mod AngleLemmas
+pub mod QuantiserLemmas
+pub mod MatrixLemmas
+mod WorkedTables

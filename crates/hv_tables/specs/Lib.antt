@@ -4,3 +4,6 @@ pub mod Quantisers
 pub mod Tables
 pub mod ContextTables
 pub mod ArithmeticTables
+pub mod AngleLaws
+pub mod QuantiserLaws
+pub mod MatrixLaws

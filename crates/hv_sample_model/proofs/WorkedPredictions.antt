@@ -110,7 +110,7 @@ dc_block :
     80 ∷ replicate 7 85 ++
     75 ∷ replicate 7 80 ++ 75 ∷ replicate 7 80 ++ 75 ∷ replicate 7 80 ++ 75 ∷ replicate 7 80 ++
     75 ∷ replicate 7 80 ++ 75 ∷ replicate 7 80 ++ 75 ∷ replicate 7 80
-unfolding tabulate total_of
+unfolding predicted tabulate total_of
 dc_block = refl
 
 -- the neighbours of a block of 4x4, of which these stand at the left of the first two rows
@@ -123,7 +123,7 @@ line_of_4 first second =
 dc_uneven :
     predicted 2 1 true (line_of_4 3 1) ≡
     4 ∷ 5 ∷ 3 ∷ 5 ∷ 3 ∷ 4 ∷ 4 ∷ 4 ∷ 4 ∷ 4 ∷ 4 ∷ 4 ∷ 4 ∷ 4 ∷ 4 ∷ 4 ∷ []
-unfolding tabulate total_of
+unfolding predicted tabulate total_of
 dc_uneven = refl
 
 -- (2 + 2 * 4 + 4 + 2) / 4

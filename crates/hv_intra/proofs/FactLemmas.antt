@@ -1,33 +1,17 @@
 -- What is computed over all sides, modes and rows.
-use Rattle.std.proofs.Common.{◌≡◌, ℕ, zero, suc, ◌+◌, ◌-◌, ◌*◌, ◌^◌, ◌<◌, ◌≤◌, Bool, true, false, refl, arith, ◌||◌, ◌&&◌, inl, inr, cond}
+use Rattle.std.proofs.Common.{◌≡◌, ℕ, ◌+◌, ◌-◌, ◌*◌, ◌^◌, ◌<◌, ◌≤◌, Bool, true, false, refl, arith, nat_lt, ◌||◌, ◌&&◌, inl, inr, cond}
 use Rattle.std.specs.Prelude.{◌⊎◌}
 use Rattle.std.proofs.Math.Dec.{ltb, eqb, leb}
 use Rattle.std.specs.Prelude.{ℤ, pos, negsuc, ◌+ℤ◌, ◌*ℤ◌}
 use Rattle.std.specs.Int.{int_shr}
 use Rattle.std.specs.Int.RustNames.{unsigned_abs}
-use Rattle.std.proofs.lemmas.Bool.{eqb-true, le-ltb, leb-true, and_parts}
+use Rattle.std.proofs.lemmas.Bool.{eqb-true, leb-true, and_parts}
 use Rattle.std.proofs.lemmas.Bool.Decides.{nat_tests}
 use borrow.Author.Tests.{ltb-true}
-use borrow.Author.Count.{below_more}
+use Rattle.hv_lemmas.proofs.ComputedLemmas.{all_below, holds_below, holds_between}
 use Rattle.hv_tables.specs.Angles.{invAngle}
 use Rattle.hv_intra.specs.References.{shift, part, first, projected, projected_count}
 use Rattle.hv_intra.proofs.SideLemmas.{by_side}
-
--- ---- tests over all numbers below one
-abbrev pub all_below : ℕ → (ℕ → Bool) → Bool
-all_below zero p = true
-all_below (suc n) p = p n && all_below n p
-
-pub all_below_at : (n : ℕ) (p : ℕ → Bool) (i : ℕ) → all_below n p ≡ true → i < n → p i ≡ true
-all_below_at zero p i h l = absurd (omega arith)
-all_below_at (suc n) p i h l =
-    let q : (p n ≡ true) × (all_below n p ≡ true) = and_parts (p n) (all_below n p) h in
-    let P : ℕ → Type 0 = λ k. p k ≡ true in
-    below_more P n (λ k lk. all_below_at n p k q.1 lk) q.0 i (omega arith)
-
-or_right : (b c : Bool) → b || c ≡ true → b ≡ false → c ≡ true
-or_right true c h f = absurd cc
-or_right false c h f = h
 
 is_natural : ℤ → Bool
 is_natural (pos n) = true
@@ -48,7 +32,7 @@ row_test log2 mode across =
     ltb (part mode across) 32
 
 rows_test : ℕ → Bool
-rows_test log2 = all_below 35 (λ mode. ltb mode 2 || all_below (2 ^ log2) (row_test log2 mode))
+rows_test log2 = all_below 35 (λ mode. nat_lt mode 2 || all_below (2 ^ log2) (row_test log2 mode))
 
 rows_pass : (log2 : ℕ) → 2 ≤ log2 → log2 ≤ 5 → rows_test log2 ≡ true
 unfolding rows_test row_test is_natural shift first part projected_count
@@ -73,10 +57,8 @@ pub row_facts : (log2 mode across : ℕ) → 2 ≤ log2 → log2 ≤ 5 → 2 ≤
     across < 2 ^ log2 → RowFacts log2 mode across
 unfolding rows_test row_test first
 row_facts log2 mode across least most first_mode last_mode below =
-    let m = all_below_at 35 (λ mode. ltb mode 2 || all_below (2 ^ log2) (row_test log2 mode)) mode
-    (rows_pass log2 least most) (omega arith) in
-    let r = or_right (ltb mode 2) (all_below (2 ^ log2) (row_test log2 mode)) m (le-ltb mode 2 first_mode) in
-    let t = and_parts _ _ (all_below_at (2 ^ log2) (row_test log2 mode) across r below) in
+    let r = holds_between 2 35 (λ mode. all_below (2 ^ log2) (row_test log2 mode)) (rows_pass log2 least most) mode first_mode (omega arith) in
+    let t = and_parts _ _ (holds_below (2 ^ log2) (row_test log2 mode) r across below) in
     let u = and_parts _ _ t.0 in
     let v = and_parts _ _ u.0 in
     let w = and_parts _ _ v.0 in
@@ -98,7 +80,7 @@ count_test log2 mode =
     all_below (projected_count log2 mode) (λ i. leb (projected mode i) (2 ^ log2))
 
 counts_test : ℕ → Bool
-counts_test log2 = all_below 26 (λ mode. ltb mode 11 || count_test log2 mode)
+counts_test log2 = all_below 26 (λ mode. nat_lt mode 11 || count_test log2 mode)
 
 counts_pass : (log2 : ℕ) → 2 ≤ log2 → log2 ≤ 5 → counts_test log2 ≡ true
 unfolding counts_test count_test shift projected projected_count
@@ -107,9 +89,7 @@ counts_pass = by_side (λ log2. counts_test log2 ≡ true) refl refl refl refl
 count_passes : (log2 mode : ℕ) → 2 ≤ log2 → log2 ≤ 5 → 11 ≤ mode → mode ≤ 25 → count_test log2 mode ≡ true
 unfolding counts_test
 count_passes log2 mode least most from to =
-    or_right (ltb mode 11) (count_test log2 mode)
-    (all_below_at 26 (λ mode. ltb mode 11 || count_test log2 mode) mode (counts_pass log2 least most) (omega arith))
-    (le-ltb mode 11 from)
+    holds_between 11 26 (count_test log2) (counts_pass log2 least most) mode from (omega arith)
 
 counted : (b : Bool) (a i : ℕ) → i < cond b a 0 → b ≡ true
 counted true a i h = refl
@@ -164,12 +144,12 @@ projected_inside log2 mode i least most h =
     let s = is_counted log2 mode i h in
     let t = and_parts _ _ (count_passes log2 mode least most s.0 s.1) in
     leb-true _ _
-    (all_below_at (projected_count log2 mode) (λ i. leb (projected mode i) (2 ^ log2)) i t.1 h)
+    (holds_below (projected_count log2 mode) (λ i. leb (projected mode i) (2 ^ log2)) t.1 i h)
 
 place_test : ℕ → ℕ → Bool
 place_test mode i = is_natural (int_shr (negsuc i *ℤ invAngle mode +ℤ pos 128) 8)
 
-places_pass : all_below 26 (λ mode. ltb mode 11 || all_below 32 (place_test mode)) ≡ true
+places_pass : all_below 26 (λ mode. nat_lt mode 11 || all_below 32 (place_test mode)) ≡ true
 unfolding place_test is_natural
 places_pass = refl
 
@@ -177,6 +157,5 @@ pub projected_is : (mode i : ℕ) → 11 ≤ mode → mode ≤ 25 → i < 32 →
     pos (projected mode i) ≡ int_shr (negsuc i *ℤ invAngle mode +ℤ pos 128) 8
 unfolding place_test projected
 projected_is mode i from to below =
-    let m = all_below_at 26 (λ mode. ltb mode 11 || all_below 32 (place_test mode)) mode places_pass (omega arith) in
-    let r = or_right (ltb mode 11) (all_below 32 (place_test mode)) m (le-ltb mode 11 from) in
-    natural (int_shr (negsuc i *ℤ invAngle mode +ℤ pos 128) 8) (all_below_at 32 (place_test mode) i r below)
+    let r = holds_between 11 26 (λ mode. all_below 32 (place_test mode)) places_pass mode from (omega arith) in
+    natural (int_shr (negsuc i *ℤ invAngle mode +ℤ pos 128) 8) (holds_below 32 (place_test mode) r i below)

@@ -10,6 +10,7 @@ pub predicted_is : (log2 mode : ℕ) (luma : Bool) (line used block : List ℕ) 
     log2 ≤ 5 → used ≡ filtered log2 mode luma line → length block ≡ 4 ^ log2 →
     HasRows (2 ^ log2) (2 ^ log2) (by_mode log2 mode luma used) block →
     block ≡ predicted log2 mode luma line
+unfolding predicted
 predicted_is log2 mode luma line used block least most e count rows =
     block_is log2 (by_mode log2 mode luma used) block (count ∙ square_of_side log2 least most) rows ∙
     rw e refl

@@ -1,17 +1,11 @@
 -- Signed numbers that pass through 32 bits.
-use Rattle.std.proofs.Common.{◌≡◌, ℕ, ◌+◌, ◌<◌, ◌≤◌, refl, arith, to_z, of_z, w32}
+use Rattle.std.proofs.Common.{◌≡◌, ℕ, ◌+◌, ◌≤◌, refl, arith, to_z, w32}
 use Rattle.std.specs.Prelude.{ℤ, pos, negsuc, ◌+ℤ◌}
 use Rattle.std.specs.Int.{int_shr}
 use Rattle.std.specs.Int.RustNames.{unsigned_abs}
-use Rattle.std.proofs.lemmas.Int.{ints, to_z-of_z, fits_signed_from_abs}
+use Rattle.std.proofs.lemmas.Int.{ints}
 use lib.Signed.{shr_z}
-
--- a small number passes as it is
-abbrev pub passed : ℤ → ℤ
-passed z = to_z w32 (of_z w32 z)
-
-pub passed_small : (z : ℤ) → unsigned_abs z < 2147483648 → passed z ≡ z
-passed_small z h = to_z-of_z w32 z (fits_signed_from_abs w32 z h)
+use Rattle.hv_lemmas.proofs.SignedLemmas.{passed, passed_small}
 
 pub shifted_by_5 : (z : ℤ) → unsigned_abs z ≤ 1024 → unsigned_abs (shr_z z 32) ≤ 32
 shifted_by_5 (pos a) h = omega arith

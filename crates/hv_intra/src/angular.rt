@@ -5,8 +5,11 @@ ghost use Rattle.hv_intra.specs.Blocks.{IsRow, HasRows};
 ghost use Rattle.hv_intra.specs.References.{first, part, blended, sample_between};
 ghost use Rattle.hv_sample_model.specs.IntraPrediction.{left, above, interpolated};
 
-use crate::neighbours::side;
-use crate::reference::{PLACES, fill_from_above, fill_from_left, first, part};
+use crate::neighbours::{Neighbours, Side};
+use crate::reference::{AngularMode, PLACES, fill_from_above, fill_from_left};
+
+/// The samples of the largest block.
+const LARGEST: usize = 1024;
 
 /// The sample between two neighbouring reference samples (8.4.4.2.6).
 #[inline(always)]
@@ -37,42 +40,30 @@ fn fill_row(reference: &[u8], first: usize, part: u8, row: &mut [u8])
 /// The block by rows, from the reference samples of a mode that predicts from above; of another
 /// mode, its columns.
 #[inline(always)]
-fn fill_rows(reference: &[u8], log2: u8, mode: u8, out: &mut [u8])
-    requires least { 2 ≤ log2 }
-    requires most { log2 ≤ 5 }
-    requires first { 2 ≤ mode }
-    requires last { mode ≤ 34 }
-    requires reference { length reference.now ≡ 98 }
-    requires room { 2 ^ log2 * 2 ^ log2 ≤ length out.old }
-    ensures { HasRows (2 ^ log2) (2 ^ log2)
-        (λ x y. sample_between reference.now (first log2 mode y) (part mode y) x) out.new }
+fn fill_rows(reference: &[u8; PLACES], side: Side, mode: AngularMode, out: &mut [u8])
+    requires { 2 ^ side.log2 * 2 ^ side.log2 ≤ length out.old }
+    ensures { HasRows (2 ^ side.log2) (2 ^ side.log2)
+        (λ x y. sample_between reference.now (first side.log2 mode.number y)
+        (part mode.number y) x) out.new }
 {
-    let n = side(log2);
+    let n = side.count();
     for y in 0..n {
-        fill_row(
-            reference,
-            first(log2, mode, y),
-            part(mode, y),
-            &mut out[y * n..y * n + n],
-        );
+        let row = &mut out[y * n..y * n + n];
+        fill_row(reference, mode.first(side, y), mode.part(y), row);
     }
 }
 
 /// A mode that predicts from above.
 #[inline(always)]
-pub(crate) fn predict_from_above(line: &[u8], log2: u8, mode: u8, out: &mut [u8])
-    requires least { 2 ≤ log2 }
-    requires most { log2 ≤ 5 }
-    requires first { 2 ≤ mode }
-    requires last { mode ≤ 34 }
-    requires line { length line.now ≡ 4 * 2 ^ log2 + 1 }
-    requires room { length out.old ≡ 2 ^ log2 * 2 ^ log2 }
-    ensures { HasRows (2 ^ log2) (2 ^ log2)
-        (λ x y. interpolated (above log2 line.now) (left log2 line.now) mode x y) out.new }
+pub(crate) fn predict_from_above(neighbours: Neighbours<'_>, mode: AngularMode, out: &mut [u8])
+    requires { length out.old ≡ 2 ^ neighbours.side.log2 * 2 ^ neighbours.side.log2 }
+    ensures { HasRows (2 ^ neighbours.entry.side.log2) (2 ^ neighbours.entry.side.log2)
+        (λ x y. interpolated (above neighbours.entry.side.log2 neighbours.entry.line.now)
+        (left neighbours.entry.side.log2 neighbours.entry.line.now) mode.number x y) out.new }
 {
     let mut reference = [0; PLACES];
-    fill_from_above(line, log2, mode, &mut reference);
-    fill_rows(&reference, log2, mode, out);
+    fill_from_above(neighbours, mode, &mut reference);
+    fill_rows(&reference, neighbours.side, mode, out);
 }
 
 /// A row of a block from its columns.
@@ -91,15 +82,12 @@ fn turn_row(columns: &[u8], n: usize, y: usize, row: &mut [u8])
 
 /// The rows of a block from its columns.
 #[inline(always)]
-fn turn(columns: &[u8], log2: u8, out: &mut [u8])
-    requires least { 2 ≤ log2 }
-    requires most { log2 ≤ 5 }
-    requires columns { 2 ^ log2 * 2 ^ log2 ≤ length columns.now }
-    requires room { length out.old ≡ 2 ^ log2 * 2 ^ log2 }
-    ensures { HasRows (2 ^ log2) (2 ^ log2)
-        (λ x y. slice_index columns.now (x * 2 ^ log2 + y)) out.new }
+fn turn(columns: &[u8], n: usize, out: &mut [u8])
+    requires side { n ≤ 32 }
+    requires columns { n * n ≤ length columns.now }
+    requires room { length out.old ≡ n * n }
+    ensures { HasRows n n (λ x y. slice_index columns.now (x * n + y)) out.new }
 {
-    let n = side(log2);
     for y in 0..n {
         turn_row(columns, n, y, &mut out[y * n..y * n + n]);
     }
@@ -108,19 +96,15 @@ fn turn(columns: &[u8], log2: u8, out: &mut [u8])
 /// A mode that predicts from the left: its columns are made as the rows of the others are.
 #[inline(always)]
 #[tactic(auto, using(crate::proofs::SideLemmas::square_few))]
-pub(crate) fn predict_from_left(line: &[u8], log2: u8, mode: u8, out: &mut [u8])
-    requires least { 2 ≤ log2 }
-    requires most { log2 ≤ 5 }
-    requires first { 2 ≤ mode }
-    requires last { mode ≤ 34 }
-    requires line { length line.now ≡ 4 * 2 ^ log2 + 1 }
-    requires room { length out.old ≡ 2 ^ log2 * 2 ^ log2 }
-    ensures { HasRows (2 ^ log2) (2 ^ log2)
-        (λ x y. interpolated (left log2 line.now) (above log2 line.now) mode y x) out.new }
+pub(crate) fn predict_from_left(neighbours: Neighbours<'_>, mode: AngularMode, out: &mut [u8])
+    requires { length out.old ≡ 2 ^ neighbours.side.log2 * 2 ^ neighbours.side.log2 }
+    ensures { HasRows (2 ^ neighbours.entry.side.log2) (2 ^ neighbours.entry.side.log2)
+        (λ x y. interpolated (left neighbours.entry.side.log2 neighbours.entry.line.now)
+        (above neighbours.entry.side.log2 neighbours.entry.line.now) mode.number y x) out.new }
 {
     let mut reference = [0; PLACES];
-    fill_from_left(line, log2, mode, &mut reference);
-    let mut columns = [0; 1024];
-    fill_rows(&reference, log2, mode, &mut columns);
-    turn(&columns, log2, out);
+    fill_from_left(neighbours, mode, &mut reference);
+    let mut columns = [0; LARGEST];
+    fill_rows(&reference, neighbours.side, mode, &mut columns);
+    turn(&columns, neighbours.side.count(), out);
 }

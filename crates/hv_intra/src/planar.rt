@@ -4,7 +4,7 @@ ghost use Rattle.std.specs.Prelude.{◌≡◌, ℕ, ◌+◌, ◌-◌, ◌*◌, �
 ghost use Rattle.hv_intra.specs.Blocks.{IsRow, HasRows};
 ghost use Rattle.hv_sample_model.specs.IntraPrediction.{planar};
 
-use crate::neighbours::{above, left, side};
+use crate::neighbours::Neighbours;
 
 /// A sample by its weight.
 #[inline(always)]
@@ -18,48 +18,41 @@ fn product(weight: u16, sample: u8) -> u16
 
 /// The sample in column x of row y (8.4.4.2.4).
 #[inline(always)]
-fn sample(line: &[u8], log2: u8, x: usize, y: usize) -> u8
-    requires least { 2 ≤ log2 }
-    requires most { log2 ≤ 5 }
-    requires line { length line.now ≡ 4 * 2 ^ log2 + 1 }
-    requires column { x < 2 ^ log2 }
-    requires row { y < 2 ^ log2 }
-    ensures { result ≡ planar log2 line.now x y }
+fn sample(neighbours: Neighbours<'_>, x: usize, y: usize) -> u8
+    requires column { x < 2 ^ neighbours.side.log2 }
+    requires row { y < 2 ^ neighbours.side.log2 }
+    ensures { result ≡ planar neighbours.entry.side.log2 neighbours.entry.line.now x y }
 {
-    let n = side(log2);
-    let across = product((n - 1 - x) as u16, left(line, log2, y + 1))
-        + product((x + 1) as u16, above(line, log2, n + 1));
-    let down = product((n - 1 - y) as u16, above(line, log2, x + 1))
-        + product((y + 1) as u16, left(line, log2, n + 1));
-    ((across + down + n as u16) >> (log2 + 1)) as u8
+    let n = neighbours.side.count();
+    let across = product((n - 1 - x) as u16, neighbours.left(y + 1))
+        + product((x + 1) as u16, neighbours.above(n + 1));
+    let down = product((n - 1 - y) as u16, neighbours.above(x + 1))
+        + product((y + 1) as u16, neighbours.left(n + 1));
+    ((across + down + n as u16) >> (neighbours.side.log2 + 1)) as u8
 }
 
 /// A row of the block.
 #[inline(always)]
-fn fill_row(line: &[u8], log2: u8, y: usize, row: &mut [u8])
-    requires least { 2 ≤ log2 }
-    requires most { log2 ≤ 5 }
-    requires line { length line.now ≡ 4 * 2 ^ log2 + 1 }
-    requires row { y < 2 ^ log2 }
-    requires room { length row.old ≡ 2 ^ log2 }
-    ensures { IsRow (2 ^ log2) (λ x. planar log2 line.now x y) row.new }
+fn fill_row(neighbours: Neighbours<'_>, y: usize, row: &mut [u8])
+    requires row { y < 2 ^ neighbours.side.log2 }
+    requires room { length row.old ≡ 2 ^ neighbours.side.log2 }
+    ensures { IsRow (2 ^ neighbours.entry.side.log2)
+        (λ x. planar neighbours.entry.side.log2 neighbours.entry.line.now x y) row.new }
 {
-    for x in 0..side(log2) {
-        row[x] = sample(line, log2, x, y);
+    for x in 0..neighbours.side.count() {
+        row[x] = sample(neighbours, x, y);
     }
 }
 
 /// Intra_Planar (8.4.4.2.4).
 #[inline(always)]
-pub(crate) fn predict_planar(line: &[u8], log2: u8, out: &mut [u8])
-    requires least { 2 ≤ log2 }
-    requires most { log2 ≤ 5 }
-    requires line { length line.now ≡ 4 * 2 ^ log2 + 1 }
-    requires room { length out.old ≡ 2 ^ log2 * 2 ^ log2 }
-    ensures { HasRows (2 ^ log2) (2 ^ log2) (planar log2 line.now) out.new }
+pub(crate) fn predict_planar(neighbours: Neighbours<'_>, out: &mut [u8])
+    requires { length out.old ≡ 2 ^ neighbours.side.log2 * 2 ^ neighbours.side.log2 }
+    ensures { HasRows (2 ^ neighbours.entry.side.log2) (2 ^ neighbours.entry.side.log2)
+        (planar neighbours.entry.side.log2 neighbours.entry.line.now) out.new }
 {
-    let n = side(log2);
+    let n = neighbours.side.count();
     for y in 0..n {
-        fill_row(line, log2, y, &mut out[y * n..y * n + n]);
+        fill_row(neighbours, y, &mut out[y * n..y * n + n]);
     }
 }

@@ -7,48 +7,45 @@ ghost use Rattle.hv_sample_model.specs.IntraPrediction.{angular, by_mode, predic
 use crate::angular::{predict_from_above, predict_from_left};
 use crate::dc::predict_dc;
 use crate::line::Line;
+use crate::neighbours::{Neighbours, Side};
 use crate::planar::predict_planar;
+use crate::reference::AngularMode;
 use crate::smoothing::fill_filtered;
 use crate::straight::{predict_horizontal, predict_vertical};
 
 /// An angular mode (8.4.4.2.6).
 #[inline(always)]
-fn predict_angular(line: &[u8], log2: u8, mode: u8, luma: bool, out: &mut [u8])
-    requires least { 2 ≤ log2 }
-    requires most { log2 ≤ 5 }
-    requires first { 2 ≤ mode }
-    requires last { mode ≤ 34 }
-    requires line { length line.now ≡ 4 * 2 ^ log2 + 1 }
-    requires room { length out.old ≡ 2 ^ log2 * 2 ^ log2 }
-    ensures { HasRows (2 ^ log2) (2 ^ log2) (angular log2 mode luma line.now) out.new }
+#[tactic(auto, using(crate::proofs::StraightModeLemmas::vertical_block, crate::proofs::StraightModeLemmas::horizontal_block))]
+fn predict_angular(neighbours: Neighbours<'_>, mode: AngularMode, luma: bool, out: &mut [u8])
+    requires { length out.old ≡ 2 ^ neighbours.side.log2 * 2 ^ neighbours.side.log2 }
+    ensures { HasRows (2 ^ neighbours.entry.side.log2) (2 ^ neighbours.entry.side.log2)
+        (angular neighbours.entry.side.log2 mode.number luma neighbours.entry.line.now) out.new }
 {
-    if mode == 10 && luma && log2 < 5 {
-        predict_horizontal(line, log2, out);
-    } else if mode == 26 && luma && log2 < 5 {
-        predict_vertical(line, log2, out);
-    } else if mode < 18 {
-        predict_from_left(line, log2, mode, out);
+    if mode.number == 10 && luma && neighbours.side.log2 < 5 {
+        predict_horizontal(neighbours, out);
+    } else if mode.number == 26 && luma && neighbours.side.log2 < 5 {
+        predict_vertical(neighbours, out);
+    } else if mode.number < 18 {
+        predict_from_left(neighbours, mode, out);
     } else {
-        predict_from_above(line, log2, mode, out);
+        predict_from_above(neighbours, mode, out);
     }
 }
 
 /// A mode from the neighbours that it predicts from.
 #[inline(always)]
-fn predict_by_mode(line: &[u8], log2: u8, mode: u8, luma: bool, out: &mut [u8])
-    requires least { 2 ≤ log2 }
-    requires most { log2 ≤ 5 }
+fn predict_by_mode(neighbours: Neighbours<'_>, mode: u8, luma: bool, out: &mut [u8])
     requires mode { mode ≤ 34 }
-    requires line { length line.now ≡ 4 * 2 ^ log2 + 1 }
-    requires room { length out.old ≡ 2 ^ log2 * 2 ^ log2 }
-    ensures { HasRows (2 ^ log2) (2 ^ log2) (by_mode log2 mode luma line.now) out.new }
+    requires room { length out.old ≡ 2 ^ neighbours.side.log2 * 2 ^ neighbours.side.log2 }
+    ensures { HasRows (2 ^ neighbours.entry.side.log2) (2 ^ neighbours.entry.side.log2)
+        (by_mode neighbours.entry.side.log2 mode luma neighbours.entry.line.now) out.new }
 {
     if mode == 0 {
-        predict_planar(line, log2, out);
+        predict_planar(neighbours, out);
     } else if mode == 1 {
-        predict_dc(line, log2, luma, out);
+        predict_dc(neighbours, luma, out);
     } else {
-        predict_angular(line, log2, mode, luma, out);
+        predict_angular(neighbours, AngularMode { number: mode }, luma, out);
     }
 }
 
@@ -71,9 +68,14 @@ fn predict_side<const LOG2: u8, const COUNT: usize>(
     requires room { length out.old ≡ 4 ^ LOG2 }
     ensures { out.new ≡ predicted LOG2 mode luma line.now }
 {
-    let mut neighbours = [0; COUNT];
-    fill_filtered(line, LOG2, mode, luma, &mut neighbours);
-    predict_by_mode(&neighbours, LOG2, mode, luma, out);
+    let side = Side { log2: LOG2 };
+    let mut filtered = [0; COUNT];
+    fill_filtered(Neighbours { side, line }, mode, luma, &mut filtered);
+    let neighbours = Neighbours {
+        side,
+        line: &filtered,
+    };
+    predict_by_mode(neighbours, mode, luma, out);
 }
 
 /// Predicts a transform block from its neighbours (8.4.4.2), which are smoothed where the mode asks

@@ -3,20 +3,20 @@
 ghost use Rattle.std.specs.Prelude.{◌≡◌, ◌+◌, ◌*◌, ◌/◌, ◌^◌, ◌≤◌, length};
 ghost use Rattle.hv_sample_model.specs.IntraPrediction.{is_smoothed, smoothed, filtered};
 
+use crate::neighbours::{Neighbours, Side};
+
 /// Whether a mode predicts from filtered neighbours (8.4.4.2.3).
 #[inline(always)]
-fn is_smoothed(log2: u8, mode: u8, luma: bool) -> bool
-    requires least { 2 ≤ log2 }
-    requires most { log2 ≤ 5 }
-    ensures { result ≡ is_smoothed log2 mode luma }
+fn is_smoothed(side: Side, mode: u8, luma: bool) -> bool
+    ensures { result ≡ is_smoothed side.log2 mode luma }
 {
-    let threshold = match log2 {
+    let threshold = match side.log2 {
         3 => 7,
         4 => 1,
         _ => 0,
     };
     let distance = mode.abs_diff(26).min(mode.abs_diff(10));
-    luma && log2 >= 3 && mode != 1 && distance > threshold
+    luma && side.log2 >= 3 && mode != 1 && distance > threshold
 }
 
 /// Three neighbours weighted 1, 2 and 1.
@@ -46,16 +46,13 @@ fn smooth(line: &[u8], out: &mut [u8])
 /// The neighbours that a mode predicts from (8.4.4.2.3): those of the line, as they are or
 /// filtered. The loop and the copy take their length from `out`, which is an array.
 #[inline(always)]
-pub(crate) fn fill_filtered(line: &[u8], log2: u8, mode: u8, luma: bool, out: &mut [u8])
-    requires least { 2 ≤ log2 }
-    requires most { log2 ≤ 5 }
-    requires line { length line.now ≡ 4 * 2 ^ log2 + 1 }
-    requires room { length out.old ≡ length line.now }
-    ensures { out.new ≡ filtered log2 mode luma line.now }
+pub(crate) fn fill_filtered(neighbours: Neighbours<'_>, mode: u8, luma: bool, out: &mut [u8])
+    requires { length out.old ≡ length neighbours.line.now }
+    ensures { out.new ≡ filtered neighbours.entry.side.log2 mode luma neighbours.entry.line.now }
 {
-    if is_smoothed(log2, mode, luma) {
-        smooth(line, out);
+    if is_smoothed(neighbours.side, mode, luma) {
+        smooth(neighbours.line, out);
     } else {
-        out.copy_from_slice(&line[..out.len()]);
+        out.copy_from_slice(&neighbours.line[..out.len()]);
     }
 }

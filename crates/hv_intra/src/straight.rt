@@ -1,13 +1,14 @@
 //! The straight modes of the smaller luma blocks, which follow the other side at the block's edge.
 
-ghost use Rattle.std.specs.Prelude.{◌≡◌, true, ◌+◌, ◌*◌, ◌^◌, ◌<◌, ◌≤◌, length, pos, ◌+ℤ◌, ◌-ℤ◌};
+ghost use Rattle.std.specs.Prelude.{◌≡◌, ◌+◌, ◌*◌, ◌^◌, ◌<◌, ◌≤◌, length, pos, ◌+ℤ◌, ◌-ℤ◌};
 ghost use Rattle.std.specs.Int.{int_shr};
 ghost use Rattle.std.specs.Int.RustNames.{unsigned_abs};
 ghost use Rattle.hv_intra.specs.Blocks.{IsRow, HasRows};
 ghost use Rattle.hv_lemmas.specs.Clipping.{clip1};
-ghost use Rattle.hv_sample_model.specs.IntraPrediction.{angular, left, above};
+ghost use Rattle.hv_intra.specs.StraightModes.{straight_on};
+ghost use Rattle.hv_sample_model.specs.IntraPrediction.{left, above};
 
-use crate::neighbours::{above, left, side};
+use crate::neighbours::Neighbours;
 
 /// Clip1 of a sample of 8 bits.
 #[inline(always)]
@@ -37,83 +38,78 @@ fn edge(first: u8, other: u8, corner: u8) -> u8
 
 /// A row of the vertical mode.
 #[inline(always)]
-fn fill_vertical_row(line: &[u8], log2: u8, y: usize, row: &mut [u8])
-    requires least { 2 ≤ log2 }
-    requires most { log2 < 5 }
-    requires line { length line.now ≡ 4 * 2 ^ log2 + 1 }
-    requires row { y < 2 ^ log2 }
-    requires room { length row.old ≡ 2 ^ log2 }
-    ensures { IsRow (2 ^ log2) (λ x. angular log2 26 true line.now x y) row.new }
+fn fill_vertical_row(neighbours: Neighbours<'_>, y: usize, row: &mut [u8])
+    requires row { y < 2 ^ neighbours.side.log2 }
+    requires room { length row.old ≡ 2 ^ neighbours.side.log2 }
+    ensures { IsRow (2 ^ neighbours.entry.side.log2)
+        (λ x. straight_on (above neighbours.entry.side.log2 neighbours.entry.line.now)
+        (left neighbours.entry.side.log2 neighbours.entry.line.now) x y) row.new }
 {
     row[0] = edge(
-        above(line, log2, 1),
-        left(line, log2, y + 1),
-        above(line, log2, 0),
+        neighbours.above(1),
+        neighbours.left(y + 1),
+        neighbours.above(0),
     );
-    for x in 1..side(log2) {
-        row[x] = above(line, log2, x + 1);
+    for x in 1..neighbours.side.count() {
+        row[x] = neighbours.above(x + 1);
     }
 }
 
 /// The vertical mode, 26.
 #[inline(always)]
-pub(crate) fn predict_vertical(line: &[u8], log2: u8, out: &mut [u8])
-    requires least { 2 ≤ log2 }
-    requires most { log2 < 5 }
-    requires line { length line.now ≡ 4 * 2 ^ log2 + 1 }
-    requires room { length out.old ≡ 2 ^ log2 * 2 ^ log2 }
-    ensures { HasRows (2 ^ log2) (2 ^ log2) (angular log2 26 true line.now) out.new }
+pub(crate) fn predict_vertical(neighbours: Neighbours<'_>, out: &mut [u8])
+    requires { length out.old ≡ 2 ^ neighbours.side.log2 * 2 ^ neighbours.side.log2 }
+    ensures { HasRows (2 ^ neighbours.entry.side.log2) (2 ^ neighbours.entry.side.log2)
+        (λ x y. straight_on (above neighbours.entry.side.log2 neighbours.entry.line.now)
+        (left neighbours.entry.side.log2 neighbours.entry.line.now) x y) out.new }
 {
-    let n = side(log2);
+    let n = neighbours.side.count();
     for y in 0..n {
-        fill_vertical_row(line, log2, y, &mut out[y * n..y * n + n]);
+        fill_vertical_row(neighbours, y, &mut out[y * n..y * n + n]);
     }
 }
 
 /// The upper row of the horizontal mode.
 #[inline(always)]
-fn fill_upper_row(line: &[u8], log2: u8, row: &mut [u8])
-    requires least { 2 ≤ log2 }
-    requires most { log2 < 5 }
-    requires line { length line.now ≡ 4 * 2 ^ log2 + 1 }
-    requires room { length row.old ≡ 2 ^ log2 }
-    ensures { IsRow (2 ^ log2) (λ x. angular log2 10 true line.now x 0) row.new }
+fn fill_upper_row(neighbours: Neighbours<'_>, row: &mut [u8])
+    requires { length row.old ≡ 2 ^ neighbours.side.log2 }
+    ensures { IsRow (2 ^ neighbours.entry.side.log2)
+        (λ x. straight_on (left neighbours.entry.side.log2 neighbours.entry.line.now)
+        (above neighbours.entry.side.log2 neighbours.entry.line.now) 0 x) row.new }
 {
-    let first = left(line, log2, 1);
-    let corner = left(line, log2, 0);
-    for x in 0..side(log2) {
-        row[x] = edge(first, above(line, log2, x + 1), corner);
+    let first = neighbours.left(1);
+    let corner = neighbours.left(0);
+    for x in 0..neighbours.side.count() {
+        row[x] = edge(first, neighbours.above(x + 1), corner);
     }
 }
 
 /// A row of the horizontal mode.
 #[inline(always)]
-fn fill_horizontal_row(line: &[u8], log2: u8, y: usize, row: &mut [u8])
-    requires least { 2 ≤ log2 }
-    requires most { log2 < 5 }
-    requires line { length line.now ≡ 4 * 2 ^ log2 + 1 }
-    requires row { y < 2 ^ log2 }
-    requires room { length row.old ≡ 2 ^ log2 }
-    ensures { IsRow (2 ^ log2) (λ x. angular log2 10 true line.now x y) row.new }
+fn fill_horizontal_row(neighbours: Neighbours<'_>, y: usize, row: &mut [u8])
+    requires row { y < 2 ^ neighbours.side.log2 }
+    requires room { length row.old ≡ 2 ^ neighbours.side.log2 }
+    ensures { IsRow (2 ^ neighbours.entry.side.log2)
+        (λ x. straight_on (left neighbours.entry.side.log2 neighbours.entry.line.now)
+        (above neighbours.entry.side.log2 neighbours.entry.line.now) y x) row.new }
 {
     if y == 0 {
-        fill_upper_row(line, log2, row);
+        fill_upper_row(neighbours, row);
     } else {
-        row.fill(left(line, log2, y + 1));
+        row.fill(neighbours.left(y + 1));
     }
 }
 
 /// The horizontal mode, 10.
 #[inline(always)]
-pub(crate) fn predict_horizontal(line: &[u8], log2: u8, out: &mut [u8])
-    requires least { 2 ≤ log2 }
-    requires most { log2 < 5 }
-    requires line { length line.now ≡ 4 * 2 ^ log2 + 1 }
-    requires room { length out.old ≡ 2 ^ log2 * 2 ^ log2 }
-    ensures { HasRows (2 ^ log2) (2 ^ log2) (angular log2 10 true line.now) out.new }
+pub(crate) fn predict_horizontal(neighbours: Neighbours<'_>, out: &mut [u8])
+    requires { length out.old ≡ 2 ^ neighbours.side.log2 * 2 ^ neighbours.side.log2 }
+    ensures { HasRows (2 ^ neighbours.entry.side.log2) (2 ^ neighbours.entry.side.log2)
+        (λ x y. straight_on (left neighbours.entry.side.log2 neighbours.entry.line.now)
+        (above neighbours.entry.side.log2 neighbours.entry.line.now) y x) out.new }
 {
-    let n = side(log2);
+    let n = neighbours.side.count();
     for y in 0..n {
-        fill_horizontal_row(line, log2, y, &mut out[y * n..y * n + n]);
+        fill_horizontal_row(neighbours, y, &mut out[y * n..y * n + n]);
     }
 }

@@ -1,1 +1,2 @@
 mod WorkedSamples
+mod WorkedPredictions

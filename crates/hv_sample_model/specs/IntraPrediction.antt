@@ -80,14 +80,17 @@ dcVal log2 line =
     (total_of n (λ i. above log2 line (i + 1) + left log2 line (i + 1)) + n) /
     2 ^ (log2 + 1)
 
+-- a value whose block is smoothed at its upper and left edge
+abbrev pub edged : ℕ → ℕ → List ℕ → ℕ → ℕ → ℕ
+edged value log2 line x y =
+    cond (nat_eq x 0 && nat_eq y 0) ((left log2 line 1 + 2 * value + above log2 line 1 + 2) / 4)
+    (cond (nat_eq y 0) ((above log2 line (x + 1) + 3 * value + 2) / 4)
+    (cond (nat_eq x 0) ((left log2 line (y + 1) + 3 * value + 2) / 4) value))
+
 -- the edges of the smaller luma blocks are smoothed
 abbrev pub dc : ℕ → Bool → List ℕ → ℕ → ℕ → ℕ
 dc log2 is_luma line x y =
-    let value = dcVal log2 line in
-    cond (not (is_luma && nat_lt log2 5)) value
-    (cond (nat_eq x 0 && nat_eq y 0) ((left log2 line 1 + 2 * value + above log2 line 1 + 2) / 4)
-    (cond (nat_eq y 0) ((above log2 line (x + 1) + 3 * value + 2) / 4)
-    (cond (nat_eq x 0) ((left log2 line (y + 1) + 3 * value + 2) / 4) value)))
+    cond (is_luma && nat_lt log2 5) (edged (dcVal log2 line) log2 line x y) (dcVal log2 line)
 
 -- The angular modes (8.4.4.2.6). The modes from 18 on predict from above, the others from the left in the same way,
 -- with columns and rows exchanged: `main` is the side that a mode predicts from, `other` the other one.
@@ -134,6 +137,6 @@ by_mode log2 mode is_luma line x y =
     (cond (nat_eq mode 1) (dc log2 is_luma line x y) (angular log2 mode is_luma line x y))
 
 -- the predicted block by rows, from the substituted neighbours
-abbrev pub predicted : ℕ → ℕ → Bool → List ℕ → List ℕ
+unfoldable pub predicted : ℕ → ℕ → Bool → List ℕ → List ℕ
 predicted log2 mode is_luma line =
     square log2 (by_mode log2 mode is_luma (filtered log2 mode is_luma line))

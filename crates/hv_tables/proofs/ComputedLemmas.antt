@@ -5,7 +5,7 @@ use Rattle.hv_tables.specs.Tables.{HasEntries}
 use Rattle.std.specs.Ordering.{int_eq}
 use Rattle.std.proofs.lemmas.Bool.Decides.{Decides-int_eq}
 
-equal_numbers : (x y : ℤ) → int_eq x y ≡ true → x ≡ y
+pub equal_numbers : (x y : ℤ) → int_eq x y ≡ true → x ≡ y
 equal_numbers x y h = (Decides-int_eq x y).0 h
 
 abbrev pub has_entry : List (List ℤ) → (ℕ → ℕ → ℤ) → ℕ → ℕ → Bool

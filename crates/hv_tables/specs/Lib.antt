@@ -6,3 +6,6 @@ pub mod ContextTables
 pub mod ContextTableLaws
 pub mod ArithmeticTables
 pub mod ArithmeticTableLaws
+pub mod AngleLaws
+pub mod QuantiserLaws
+pub mod MatrixLaws

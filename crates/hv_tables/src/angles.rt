@@ -3,6 +3,7 @@
 ghost use Rattle.std.specs.Prelude.{◌≡◌, ◌≤◌};
 ghost use Rattle.std.specs.Int.RustNames.{unsigned_abs};
 ghost use Rattle.hv_tables.specs.Angles.{intraPredAngle, invAngle};
+ghost use Rattle.hv_tables.specs.AngleLaws.{AnglesAreMirrored, AnglesTurnAtHorizontal, InverseAnglesAreNearest};
 
 /// intraPredAngle of the modes 2 to 34 (8.4.4.2.6).
 #[rattlefmt::skip]
@@ -49,3 +50,12 @@ pub fn inv_angle(mode: u8) -> i16
 {
     INV_ANGLES[usize::from(mode - 11)]
 }
+
+/// The angles from the left are those from above, in the other order; on the two sides of the
+/// horizontal mode they are as large, with the other sign; and an inverse angle is 8192 over the
+/// angle, to the nearest.
+pub fn angle_laws()
+    ensures mirrored { AnglesAreMirrored }
+    ensures turned { AnglesTurnAtHorizontal }
+    ensures inverse { InverseAnglesAreNearest }
+{}

@@ -12,11 +12,11 @@ mod quantisers;
 #[cfg(test)]
 mod tests;
 
-pub use angles::{intra_pred_angle, inv_angle};
+pub use angles::{angle_laws, intra_pred_angle, inv_angle};
 pub use arithmetic::{arithmetic_tables_laws, next_state, range_tab_lps, trans_idx_lps};
 pub use contexts::{CONTEXTS, context_offset, context_place, context_tables_laws, init_values};
 pub use matrix::{
-    matrix_columns_4, matrix_columns_8, matrix_columns_16, matrix_columns_32, matrix_rows_4,
-    matrix_rows_8, matrix_rows_16, matrix_rows_32,
+    matrix_columns_4, matrix_columns_8, matrix_columns_16, matrix_columns_32, matrix_laws,
+    matrix_rows_4, matrix_rows_8, matrix_rows_16, matrix_rows_32,
 };
-pub use quantisers::{chroma_qp, level_scale, quantisation_factor};
+pub use quantisers::{chroma_qp, level_scale, quantisation_factor, quantiser_laws};

@@ -5,6 +5,7 @@
 //! rows of the greatest one, cut to their number.
 ghost use Rattle.hv_tables.specs.Tables.{HasEntries};
 ghost use Rattle.hv_tables.specs.TransformMatrix.{transMatrix};
+ghost use Rattle.hv_tables.specs.MatrixLaws.{SecondRowOf32, SecondRowOf16, SecondRowOf8, SecondRowOf4, ThirdRowOf4};
 
 /// Row k is basis function k of 4 samples.
 #[rattlefmt::skip]
@@ -293,3 +294,13 @@ pub fn matrix_columns_32() -> &'static [[i8; 32]; 32]
 {
     &COLUMNS_32
 }
+
+/// The second row of each matrix, and the third of the smallest, are those that the standard prints:
+/// each entry but 64 in the first rows is one of theirs, with a sign.
+pub fn matrix_laws()
+    ensures of_32 { SecondRowOf32 }
+    ensures of_16 { SecondRowOf16 }
+    ensures of_8 { SecondRowOf8 }
+    ensures of_4 { SecondRowOf4 }
+    ensures third_of_4 { ThirdRowOf4 }
+{}

@@ -2,6 +2,7 @@
 //! quantisation.
 ghost use Rattle.std.specs.Prelude.{◌≡◌, ◌≤◌};
 ghost use Rattle.hv_tables.specs.Quantisers.{chroma_qp, levelScale, quantisation_factor};
+ghost use Rattle.hv_tables.specs.QuantiserLaws.{ChromaKeepsPace, ChromaFallsBehind, ChromaGoesHalfAsFast, ChromaStaysSixBehind, ScalesAreNearest, FactorsAreNearest};
 
 /// QpC, for qPi from 30 to 43 (Table 8-10, of ChromaArrayType 1).
 #[rattlefmt::skip]
@@ -50,3 +51,15 @@ pub fn quantisation_factor(qp: u8) -> u16
 {
     FACTORS[usize::from(qp % 6)]
 }
+
+/// The quantiser of chroma is that of luma below 30, one less to 33, then goes half as fast to 43,
+/// and stays six less above; a scaling factor is the nearest to 2^((32 + QP % 6) / 6), and a factor
+/// of quantisation the nearest to 2^20 by it.
+pub fn quantiser_laws()
+    ensures below { ChromaKeepsPace }
+    ensures from_30 { ChromaFallsBehind }
+    ensures from_34 { ChromaGoesHalfAsFast }
+    ensures above { ChromaStaysSixBehind }
+    ensures scales { ScalesAreNearest }
+    ensures factors { FactorsAreNearest }
+{}

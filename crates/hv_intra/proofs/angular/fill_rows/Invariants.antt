@@ -5,5 +5,5 @@ use Rattle.hv_intra.proofs.angular.fill_rows.Given as goal
 
 abbrev pub invariant-loop-y : goal.invariant-loop-y
 invariant-loop-y l =
-    HasRows (2 ^ l.log2) l.y
-    (λ x y. sample_between l.reference (first l.log2 l.mode y) (part l.mode y) x) l.out
+    HasRows (2 ^ l.side.log2) l.y
+    (λ x y. sample_between l.reference (first l.side.log2 l.mode.number y) (part l.mode.number y) x) l.out

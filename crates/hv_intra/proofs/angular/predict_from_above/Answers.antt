@@ -5,8 +5,7 @@ use Rattle.hv_intra.proofs.angular.predict_from_above.Goals as goal
 
 pub returns : goal.returns
 returns c = λ x y column row.
-    let r = c.requires in
     c.fill_rows.ensures x y column row ∙
-    between_is c.args.log2 c.args.mode x y (above c.args.log2 c.args.line.now)
-    (left c.args.log2 c.args.line.now) c.fill_from_above.new.reference r.least r.most r.first r.last
+    between_is c.args.neighbours.side.log2 c.args.mode.number x y (above c.args.neighbours.side.log2 c.args.neighbours.line.now)
+    (left c.args.neighbours.side.log2 c.args.neighbours.line.now) c.fill_from_above.new.reference c.args.neighbours.side.least c.args.neighbours.side.most c.args.mode.first c.args.mode.last
     c.fill_from_above.ensures column row

@@ -5,6 +5,6 @@ use Rattle.hv_intra.proofs.planar.predict_planar.Goals as goal
 
 pub loop-y-preserved : goal.loop-y-preserved
 loop-y-preserved c =
-    rows_written (2 ^ c.args.log2) c.side-n.result c.loop-y.y c.loop-y.out c.fill_row.new.row
-    (planar c.args.log2 c.args.line.now) c.side-n.ensures.value c.loop-y-test.true (omega arith)
+    rows_written (2 ^ c.args.neighbours.side.log2) c.count-n.result c.loop-y.y c.loop-y.out c.fill_row.new.row
+    (planar c.args.neighbours.side.log2 c.args.neighbours.line.now) c.count-n.ensures.value c.loop-y-test.true (omega arith)
     c.fill_row.auto.row c.loop-y.invariant c.fill_row.ensures

@@ -4,4 +4,4 @@ use Rattle.hv_sample_model.specs.IntraPrediction.{planar}
 use Rattle.hv_intra.proofs.planar.predict_planar.Given as goal
 
 abbrev pub invariant-loop-y : goal.invariant-loop-y
-invariant-loop-y l = HasRows (2 ^ l.log2) l.y (planar l.log2 l.line) l.out
+invariant-loop-y l = HasRows (2 ^ l.neighbours.side.log2) l.y (planar l.neighbours.side.log2 l.neighbours.line.now) l.out

@@ -7,32 +7,32 @@ use Rattle.hv_intra.proofs.reference.fill_from_left.Goals as goal
 
 pub projected-requires-clause-first : goal.projected-requires-clause-first
 projected-requires-clause-first c =
-    counted_first c.args.log2 c.args.mode c.loop-i-2.i (omega (arith, c.projected_count-i-end.ensures))
+    counted_first c.args.neighbours.side.log2 c.args.mode.number c.loop-i-2.i (omega (arith, c.projected_count-i-end.ensures))
 
 pub projected-requires-clause-last : goal.projected-requires-clause-last
 projected-requires-clause-last c =
-    counted_last c.args.log2 c.args.mode c.loop-i-2.i (omega (arith, c.projected_count-i-end.ensures))
+    counted_last c.args.neighbours.side.log2 c.args.mode.number c.loop-i-2.i (omega (arith, c.projected_count-i-end.ensures))
 
 pub loop-i-2-preserved : goal.loop-i-2-preserved
 loop-i-2-preserved c =
-    let n : ℕ = 2 ^ c.args.log2 in
+    let n : ℕ = 2 ^ c.args.neighbours.side.log2 in
     let i : ℕ = c.loop-i-2.i in
     let below : i < n =
-    counted_side c.args.log2 c.args.mode i c.requires.least c.requires.most
+    counted_side c.args.neighbours.side.log2 c.args.mode.number i c.args.neighbours.side.least c.args.neighbours.side.most
     (omega (arith, c.projected_count-i-end.ensures)) in
-    let value : c.above.result ≡ above c.args.log2 c.args.line.now (projected c.args.mode i) =
-    c.above.ensures ∙ ap (above c.args.log2 c.args.line.now) c.projected.ensures in
+    let value : c.above.result ≡ above c.args.neighbours.side.log2 c.args.neighbours.line.now (projected c.args.mode.number i) =
+    c.above.ensures ∙ ap (above c.args.neighbours.side.log2 c.args.neighbours.line.now) c.projected.ensures in
     record {
-      main = main_kept n c.side-n.result i c.above.result c.loop-i-2.reference
-          (λ k. left c.args.log2 c.args.line.now (k - n)) c.side-n.ensures.value below
+      main = main_kept n c.count-n.result i c.above.result c.loop-i-2.reference
+          (λ k. left c.args.neighbours.side.log2 c.args.neighbours.line.now (k - n)) c.count-n.ensures.value below
           c.loop-i-2.invariant.main;
-      before = before_more n c.side-n.result i c.above.result c.loop-i-2.reference
-          (λ j. above c.args.log2 c.args.line.now (projected c.args.mode j)) c.side-n.ensures.value below
+      before = before_more n c.count-n.result i c.above.result c.loop-i-2.reference
+          (λ j. above c.args.neighbours.side.log2 c.args.neighbours.line.now (projected c.args.mode.number j)) c.count-n.ensures.value below
           (omega arith) value c.loop-i-2.invariant.before;
     }
 
 pub returns : goal.returns
 returns c =
-    reference_held c.args.log2 c.args.mode c.loop-i-2.i (left c.args.log2 c.args.line.now)
-    (above c.args.log2 c.args.line.now) c.loop-i-2.reference (omega (arith, c.projected_count-i-end.ensures))
+    reference_held c.args.neighbours.side.log2 c.args.mode.number c.loop-i-2.i (left c.args.neighbours.side.log2 c.args.neighbours.line.now)
+    (above c.args.neighbours.side.log2 c.args.neighbours.line.now) c.loop-i-2.reference (omega (arith, c.projected_count-i-end.ensures))
     c.loop-i-2.invariant.main c.loop-i-2.invariant.before

@@ -1,10 +1,11 @@
-use Rattle.std.proofs.Common.{◌^◌, arith, true}
-use Rattle.hv_sample_model.specs.IntraPrediction.{angular}
+use Rattle.std.proofs.Common.{◌^◌, arith}
+use Rattle.hv_sample_model.specs.IntraPrediction.{left, above}
+use Rattle.hv_intra.specs.StraightModes.{straight_on}
 use Rattle.hv_intra.proofs.RowLemmas.{rows_written}
 use Rattle.hv_intra.proofs.straight.predict_horizontal.Goals as goal
 
 pub loop-y-preserved : goal.loop-y-preserved
 loop-y-preserved c =
-    rows_written (2 ^ c.args.log2) c.side-n.result c.loop-y.y c.loop-y.out c.fill_horizontal_row.new.row
-    (angular c.args.log2 10 true c.args.line.now) c.side-n.ensures.value c.loop-y-test.true (omega arith)
+    rows_written (2 ^ c.args.neighbours.side.log2) c.count-n.result c.loop-y.y c.loop-y.out c.fill_horizontal_row.new.row
+    (λ x y. straight_on (left c.args.neighbours.side.log2 c.args.neighbours.line.now) (above c.args.neighbours.side.log2 c.args.neighbours.line.now) y x) c.count-n.ensures.value c.loop-y-test.true (omega arith)
     c.fill_horizontal_row.auto.row c.loop-y.invariant c.fill_horizontal_row.ensures

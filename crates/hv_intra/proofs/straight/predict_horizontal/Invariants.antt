@@ -1,7 +1,8 @@
-use Rattle.std.proofs.Common.{◌^◌, true}
+use Rattle.std.proofs.Common.{◌^◌}
 use Rattle.hv_intra.specs.Blocks.{HasRows}
-use Rattle.hv_sample_model.specs.IntraPrediction.{angular}
+use Rattle.hv_sample_model.specs.IntraPrediction.{left, above}
+use Rattle.hv_intra.specs.StraightModes.{straight_on}
 use Rattle.hv_intra.proofs.straight.predict_horizontal.Given as goal
 
 abbrev pub invariant-loop-y : goal.invariant-loop-y
-invariant-loop-y l = HasRows (2 ^ l.log2) l.y (angular l.log2 10 true l.line) l.out
+invariant-loop-y l = HasRows (2 ^ l.neighbours.side.log2) l.y (λ x y. straight_on (left l.neighbours.side.log2 l.neighbours.line.now) (above l.neighbours.side.log2 l.neighbours.line.now) y x) l.out

@@ -3,7 +3,7 @@ use Rattle.std.specs.Prelude.{ℤ}
 use Rattle.std.specs.Int.{int_shr}
 use Rattle.hv_intra.specs.References.{shift}
 use Rattle.hv_intra.proofs.SignedLemmas.{shift_is, shifted_by_5}
-use Rattle.hv_intra.proofs.reference.shift.Goals as goal
+use Rattle.hv_intra.proofs.reference.AngularMode.shift.Goals as goal
 
 pub returns-clause-value : goal.returns-clause-value
 unfolding shift

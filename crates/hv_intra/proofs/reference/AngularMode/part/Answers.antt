@@ -3,8 +3,8 @@ use Rattle.std.specs.Prelude.{ℤ, pos}
 use Rattle.std.specs.Int.{int_rem_euclid}
 use Rattle.std.specs.Int.RustNames.{unsigned_abs}
 use Rattle.hv_intra.specs.References.{part}
-use Rattle.hv_intra.proofs.SignedLemmas.{passed_small}
-use Rattle.hv_intra.proofs.reference.part.Goals as goal
+use Rattle.hv_lemmas.proofs.SignedLemmas.{passed_small}
+use Rattle.hv_intra.proofs.reference.AngularMode.part.Goals as goal
 
 pub returns-clause-value : goal.returns-clause-value
 unfolding part

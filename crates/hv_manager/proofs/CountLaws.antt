@@ -6,7 +6,7 @@ use Rattle.std.proofs.lemmas.Bool.{both_ways}
 use Rattle.std.proofs.lemmas.List.{get_or_default, get_or-replicate, length-drop, length-replicate, length-take, take_all}
 use Rattle.std.proofs.lemmas.List.Elements.{All-from_get_or}
 use Rattle.std.proofs.lemmas.List.Sums.{count_by-le-length, sum_by_more, sum_by-drop_more}
-use Rattle.hv_model.specs.Structure.{Coded, coded, coding, picture_at}
+use Rattle.hv_group_model.specs.Structure.{Coded, coded, coding, picture_at}
 use Rattle.hv_decision.specs.Structure.{Structure, IsStructure}
 use Rattle.hv_manager.specs.Progress.{AreCounts, coded_at, filtered_or_none, names, one_where, one_at}
 use Rattle.hv_manager.proofs.StructureLaws.{coded-picture_at, length-order, one_at-le, two_references}

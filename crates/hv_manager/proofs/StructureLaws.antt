@@ -4,12 +4,12 @@ use Rattle.std.proofs.Common.{◌≡◌, ℕ, suc, ◌+◌, ◌<◌, ◌≤◌, 
 use Rattle.std.specs.Prelude.{◌⊎◌, slice_get}
 use Rattle.std.specs.List.{list_all, list_any}
 use Rattle.std.proofs.lemmas.Bool.{and_parts, cases_eq, cases_lt, eq-eqb, ne_eqb, eqb-false, eqb-true, ltb-true, not-true}
-use Rattle.hv_model.specs.Structure.{Coded, coded, coding, place_in, picture_at, coded_of, rising}
+use Rattle.hv_group_model.specs.Structure.{Coded, coded, coding, place_in, picture_at, coded_of, rising}
 use Rattle.hv_decision.specs.Orders.{IsOrder}
 use Rattle.hv_decision.specs.Structure.{Structure, IsStructure}
-use Rattle.hv_decision.proofs.Lists.{all_at}
-use Rattle.hv_decision.proofs.EachStructure.{each_count, each_levels, length-coding, place_below}
-use Rattle.hv_decision.proofs.Orders.{orders}
+use Rattle.hv_lemmas.proofs.ComputedLemmas.{holds_at}
+use Rattle.hv_decision.proofs.EachStructureLemmas.{each_count, each_levels, length-coding, place_below}
+use Rattle.hv_decision.proofs.OrderLemmas.{orders}
 use Rattle.hv_manager.specs.Progress.{coded_at, names, one_where, one_at}
 
 -- ---- computed
@@ -61,7 +61,7 @@ apart_at s k is below =
     let order : List Coded = coding s.count s.levels in
     let there : place_in order k < s.count = place_below s.count s.levels k is.some is.most is.few below in
     let test : are_apart s.count (coded_at s.count s.levels k).picture (coded_at s.count s.levels k).references ≡ true =
-    all_at (λ c. are_apart s.count c.picture c.references) order (place_in order k) (coded 0 0 [])
+    holds_at (λ c. are_apart s.count c.picture c.references) order (place_in order k) (coded 0 0 [])
     (levels_at s.count s.levels (each_count is_apart_count s.count low high is.some is.most (cases_lt s.count 41)) is.few)
     (omega (arith, length-order s is)) in
     subst (λ p. are_apart s.count p (coded_at s.count s.levels k).references ≡ true)

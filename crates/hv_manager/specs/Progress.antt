@@ -1,7 +1,7 @@
 -- How far the pictures of a group are, and how many of them name one: are it or refer to it.
 use Rattle.std.specs.Prelude.{◌≡◌, ℕ, ◌+◌, ◌<◌, ◌≤◌, Bool, true, false, cond, nat_eq, ◌||◌, Option, None, Some, List, All, count_by, drop, length, replicate, slice_index, slice_index_or, slice_set}
 use Rattle.std.specs.List.{list_any}
-use Rattle.hv_model.specs.Structure.{Coded, coding, place_in, picture_at, coded_of}
+use Rattle.hv_group_model.specs.Structure.{Coded, coding, place_in, picture_at, coded_of}
 use Rattle.hv_decision.specs.Structure.{Structure, IsStructure}
 
 -- How many pictures and levels the group has, how many of its pictures are begun and written, which are the first ones

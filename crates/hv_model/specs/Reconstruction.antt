@@ -1,15 +1,15 @@
 -- The decoded picture before the in-loop filters (8.4, 8.6). So far of blank trees.
 use Rattle.std.specs.Prelude.{ℕ, ◌/◌, List}
 use Rattle.hv_types.specs.declared.picture.Picture.{Picture}
-use Rattle.hv_types.specs.Samples.{filled}
+use Rattle.hv_types.specs.Samples.{filled_plane}
 use Rattle.hv_syntax_model.specs.Trees.{Tree}
 
 -- every sample of these sides is the middle one
 abbrev pub grey : ℕ → ℕ → Picture
 grey width height = record {
-  luma = filled width height 128;
-  cb = filled (width / 2) (height / 2) 128;
-  cr = filled (width / 2) (height / 2) 128;
+  luma = filled_plane width height 128;
+  cb = filled_plane (width / 2) (height / 2) 128;
+  cr = filled_plane (width / 2) (height / 2) 128;
 }
 
 -- The first block predicts from nothing, which stands for 128 (8.4.4.2.2), and DC of samples that are all 128 is 128

@@ -1,7 +1,8 @@
 //! Emulation prevention, byte by byte.
 
 ghost use Rattle.std.specs.Prelude.{◌≡◌, ◌+◌, ◌<◌, ◌≤◌, ◌^◌, ◌++◌, ◌∷◌, [], cond, IfOk, OnOk};
-ghost use Rattle.hv_stream_model.specs.Units.{run_after, needs_three, escape};
+ghost use Rattle.hv_stream_model.specs.Units.{escape};
+ghost use Rattle.hv_stream_model.specs.ZeroRuns.{run_after, needs_three};
 
 use hv_types::NoMemory;
 use std::alloc::{AllocError, Global};

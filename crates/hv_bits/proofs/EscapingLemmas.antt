@@ -1,5 +1,5 @@
--- Emulation prevention (7.3.1.1), a stretch at a time, for `put_escaped` and `put_stripped`: the bytes
--- out are followed by those from `from` up to the place i, and by what is made of the others.
+-- Emulation prevention (7.3.1.1), a stretch at a time, for `put_escaped` and `put_stripped`: the
+-- bytes out are followed by those from `from` up to the place i, and by what is made of the others.
 use Rattle.std.proofs.Common.{◌≡◌, ◌≢◌, ℕ, ◌+◌, ◌-◌, ◌<◌, ◌≤◌, Bool, false, ◌&&◌, List, [], ◌∷◌, ◌++◌, length, get_or, take, drop, refl, sym, ap, subst, ◌∙◌, arith, lt-ltb, le-ltb, eq-eqb, append_assoc, append-nil, length-drop}
 use Rattle.std.specs.Prelude.{nat_lt, nat_eq}
 use Rattle.std.proofs.lemmas.Bool.{and_left, and_right, cond-true, cond-false, cond_both, ne_eqb}

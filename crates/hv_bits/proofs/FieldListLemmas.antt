@@ -1,4 +1,4 @@
--- Lists of fields, put one after another.
+-- Lists of fields (7.2), put one after another, for `put_fields` and `tables_join`.
 use Rattle.std.proofs.Common.{◌≡◌, ℕ, ◌+◌, ◌<◌, List, [], ◌∷◌, ◌++◌, length, take, map, get_or, refl, ap, sym, ◌∙◌, add-one, append-nil}
 use Rattle.std.proofs.Math.Seq.{take-suc}
 use Rattle.hv_stream_model.specs.Fields.{Field, field_bits, bits_of_fields}

@@ -1,4 +1,5 @@
--- What a field adds to the bits of a writer: its last bits r, of which w wait, take k bits of v.
+-- What a field (7.2) adds to the bits of a writer, for `put`, `trail` and `finish`: its last bits
+-- r, of which w wait, take k bits of v.
 use Rattle.std.proofs.Common.{◌≡◌, ℕ, ◌+◌, ◌-◌, ◌*◌, ◌/◌, ◌%◌, ◌^◌, ◌<◌, ◌≤◌, zero, suc, List, [], ◌∷◌, ◌++◌, length, bit_and, bit_or, sym, ap, ap₂, ◌∙◌, arith, append_assoc, append-nil, length-append}
 use Rattle.std.specs.Int.{w32, to_be_bytes}
 use Rattle.std.proofs.lemmas.Nat.{shl_whole, one_shl, or_shifted, and_mask}

@@ -1,5 +1,5 @@
--- What stands behind the bits that were read, the number of the next ones, and the zeros among
--- them.
+-- What stands behind the bits that were read (7.2, 9.2), the number of the next ones, and the zeros
+-- among them, for the calls of `BitReader`.
 use Rattle.std.proofs.Common.{◌≡◌, ℕ, zero, suc, ◌+◌, ◌-◌, ◌*◌, ◌/◌, ◌%◌, ◌^◌, ◌<◌, ◌≤◌, List, [], ◌∷◌, ◌++◌, length, get_or, take, drop, min, add-one, false, bit_and, bit_or, sym, ap, ap₂, subst, ◌∙◌, arith, append_assoc, append-nil, length-drop, take-append-drop}
 use Rattle.std.proofs.Math.Nat.{mod-eq_of_lt, div-eq_of_lt, pow-le-pow_right}
 use Rattle.std.specs.Prelude.{replicate, nat_eq}

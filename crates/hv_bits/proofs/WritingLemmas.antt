@@ -1,4 +1,4 @@
--- One field put after another.
+-- Bits that are put one after another, for the calls of `BitWriter`.
 use Rattle.std.proofs.Common.{◌≡◌, ℕ, List, ◌++◌, ap, ◌∙◌, subst, append_assoc}
 use Rattle.hv_bits.specs.Writing.{Written, Appends}
 

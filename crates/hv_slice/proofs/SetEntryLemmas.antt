@@ -1,4 +1,5 @@
--- The entries of a reference set are its pictures, and a header with them is the definition's.
+-- The entries of a reference set (7.3.7) are its pictures, for `entries`, and a header with them is
+-- the definition's, for `put_slice`.
 use Rattle.std.proofs.Common.{◌≡◌, ◌≢◌, ℕ, zero, suc, ◌+◌, ◌-◌, ◌<◌, ◌≤◌, List, [], ◌∷◌, ◌++◌, length, map, take, drop, refl, sym, ap, ap₂, ◌∙◌, arith}
 use Rattle.std.specs.Prelude.{slice_get, slice_set, Some, pos, neg_ℤ}
 use Rattle.std.specs.Int.RustNames.{unsigned_abs}

@@ -1,4 +1,4 @@
--- One side of a reference set, an entry at a time.
+-- One side of a reference set (7.3.7), an entry at a time, for `put_side` and `put_set`.
 use Rattle.std.proofs.Common.{◌≡◌, ℕ, ◌+◌, ◌-◌, ◌<◌, ◌≤◌, List, [], ◌∷◌, ◌++◌, length, drop, get_or, refl, sym, ap, ap₂, ◌∙◌, subst, append_assoc, append-nil, Bool, true, false}
 use Rattle.std.specs.Int.RustNames.{unsigned_abs}
 use Rattle.std.proofs.lemmas.List.{drop_more, drop_all, length-map}

@@ -1,4 +1,4 @@
--- The header of a P picture, from its parts.
+-- The header of a P picture (7.3.6.1) from its parts, for `put_p_slice`.
 use Rattle.std.proofs.Common.{◌≡◌, ℕ, List, [], ◌∷◌, ◌++◌, ap, ap₂, ◌∙◌, append_assoc}
 use Rattle.hv_types.specs.declared.bins.SliceKind.TheVariants.{P}
 use Rattle.hv_stream_model.specs.Fields.{Field, u, ue, se}

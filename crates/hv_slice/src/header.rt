@@ -31,8 +31,9 @@ pub fn write_slice_header(
     requires offsets { _entry_offsets.now ≡ [] }
     ensures unfailed { writer.new.failed ≡ false → writer.old.failed ≡ false }
     ensures bits { writer.new.failed ≡ false → writer.new.bits ≡
-        aligned (writer.old.bits ++ bits_of_fields (slice_header_of (length group.now.input.pictures)
-        group.now.input.config.levels group.now.input.config.qp picture)) }
+        aligned (writer.old.bits ++ bits_of_fields (slice_header_of
+        (length group.now.input.pictures) group.now.input.config.levels
+        group.now.input.config.qp picture)) }
     ensures whole { writer.new.failed ≡ false → length writer.new.bits % 8 ≡ 0 }
 {
     let base = group.input.config().settings().qp;

@@ -20,7 +20,7 @@ end_in_zeros-runs [] = refl
 end_in_zeros-runs (zero ∷ []) = refl
 end_in_zeros-runs (suc last ∷ []) = rw (is_zero-false (suc last) (λ e. omega arith)) refl
 end_in_zeros-runs (suc last ∷ byte ∷ others) = rw (is_zero-false (suc last) (λ e. omega arith)) refl
-end_in_zeros-runs (zero ∷ suc byte ∷ others) = 
+end_in_zeros-runs (zero ∷ suc byte ∷ others) =
     rw (is_zero-false (suc byte) (λ e. omega arith)) refl
 end_in_zeros-runs (zero ∷ zero ∷ others) =
     sym (lt-ltb 1 (suc (suc (leading_zero_bytes others))) (omega arith))

@@ -2,7 +2,7 @@
 use Rattle.std.proofs.Common.{◌≡◌, ℕ, ◌+◌, List, [], ◌∷◌, ◌++◌, refl, arith}
 use Rattle.std.specs.Prelude.{Some, None, negsuc, replicate}
 use Rattle.hv_stream_model.specs.Fields.{ue, se, field_bits, log2_of, read_field, Ue, Codes}
-use Rattle.hv_stream_model.specs.Units.{NalUnit, unit_bytes, escape, strip, units_of}
+use Rattle.hv_stream_model.specs.Units.{TRAIL_R, IDR_N_LP, NalUnit, unit_bytes, unit_of_payload, escape, strip, units_of}
 
 zero_code : field_bits (ue 0) ≡ 1 ∷ []
 unfolding log2_of
@@ -52,6 +52,27 @@ zeros_unit = record {
 
 zeros_written : unit_bytes zeros_unit ≡ 0 ∷ 0 ∷ 0 ∷ 1 ∷ 80 ∷ 1 ∷ 0 ∷ 0 ∷ 3 ∷ 0 ∷ 128 ∷ []
 zeros_written = refl
+
+-- a unit of layer 33 and TemporalId 2
+abbrev layered_unit : NalUnit
+layered_unit = record { nal_unit_type = 40; nuh_layer_id = 33; TemporalId = 2; payload = 128 ∷ [] }
+
+layered_written : unit_bytes layered_unit ≡ 0 ∷ 0 ∷ 0 ∷ 1 ∷ 81 ∷ 11 ∷ 128 ∷ []
+layered_written = refl
+
+layered_read : units_of (0 ∷ 0 ∷ 1 ∷ 81 ∷ 11 ∷ 128 ∷ []) ≡ Some (layered_unit ∷ [])
+layered_read = refl
+
+-- the slice of a grey IDR picture, and the front of that of another picture
+idr_unit :
+    unit_of_payload IDR_N_LP (0xAF ∷ 0xC0 ∷ 0xE8 ∷ 0x73 ∷ 0x7F ∷ 0x80 ∷ []) ≡
+    0 ∷ 0 ∷ 0 ∷ 1 ∷ 0x28 ∷ 0x01 ∷ 0xAF ∷ 0xC0 ∷ 0xE8 ∷ 0x73 ∷ 0x7F ∷ 0x80 ∷ []
+idr_unit = refl
+
+trailing_unit :
+    unit_of_payload TRAIL_R (0xD0 ∷ 0x19 ∷ 0x3F ∷ 0x23 ∷ []) ≡
+    0 ∷ 0 ∷ 0 ∷ 1 ∷ 0x02 ∷ 0x01 ∷ 0xD0 ∷ 0x19 ∷ 0x3F ∷ 0x23 ∷ []
+trailing_unit = refl
 
 zeros_stripped : strip (0 ∷ 0 ∷ 3 ∷ 0 ∷ 128 ∷ []) ≡ 0 ∷ 0 ∷ 0 ∷ 128 ∷ []
 zeros_stripped = refl

@@ -1,6 +1,6 @@
 -- Context variables as states of one number each, and the state after a bin (9.3.4.3.2.2), for
 -- state_after.
-use Rattle.std.proofs.Common.{◌≡◌, ℕ, zero, suc, ◌+◌, ◌*◌, ◌/◌, ◌%◌, ◌<◌, ◌≤◌, Bool, true, false, cond, ◌&&◌, eqb, get_or, refl, ap, ◌∙◌, arith, eqb-true, inl, inr}
+use Rattle.std.proofs.Common.{◌≡◌, ℕ, ◌+◌, ◌*◌, ◌/◌, ◌%◌, ◌<◌, Bool, true, false, cond, ◌&&◌, eqb, refl, ap, ◌∙◌, arith, eqb-true}
 use Rattle.std.proofs.lemmas.Bool.{and_parts}
 use Rattle.hv_lemmas.proofs.ComputedLemmas.{all_below, holds_below}
 use Rattle.hv_tables.specs.ArithmeticTables.{state_after}

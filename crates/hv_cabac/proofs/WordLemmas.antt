@@ -1,7 +1,6 @@
 -- The bytes of the code word.
-use Rattle.std.proofs.Common.{◌≡◌, ℕ, zero, suc, ◌+◌, ◌-◌, ◌*◌, ◌/◌, ◌%◌, ◌^◌, ◌<◌, ◌≤◌, List, [], ◌∷◌, ◌++◌, length, replicate, take, drop, get_or, refl, sym, ap, ap₂, ◌∙◌, subst, arith, pow_pos, pow-add, pow-suc, mul-le-mul_right, append_assoc, length-append, one-add}
-use Rattle.std.proofs.Math.Nat.{div-eq_of_lt, mul-add-div_right}
-use Rattle.std.proofs.lemmas.Nat.{shl-shr, shr_high, mod-pow-add}
+use Rattle.std.proofs.Common.{◌≡◌, ℕ, suc, ◌+◌, ◌-◌, ◌*◌, ◌/◌, ◌%◌, ◌^◌, ◌<◌, ◌≤◌, List, [], ◌∷◌, ◌++◌, length, replicate, take, drop, get_or, refl, sym, ap, ap₂, ◌∙◌, subst, arith, pow_pos, pow-add, pow-suc, mul-le-mul_right, append_assoc, length-append}
+use Rattle.std.proofs.lemmas.Nat.{shl-shr, shr_high}
 use Rattle.std.proofs.lemmas.List.{drop-append-le, length-replicate, replicate-append-replicate}
 use Rattle.hv_stream_model.specs.Bits.{digits, number_of, bits_of, first_bytes, bytes_of}
 use Rattle.hv_entropy_model.specs.CodeWord.{Interval, odd_from, word_at}

@@ -60,7 +60,8 @@ impl BinSink for Encoder {
         let place = context_place(context);
         let state = self.variables.state(place);
         let lps = lps_width(state, self.register.range());
-        self.register.encode_decision(lps, value == (state % 2 == 1));
+        self.register
+            .encode_decision(lps, value == (state % 2 == 1));
         self.variables.set(place, state_after(state, value));
     }
 

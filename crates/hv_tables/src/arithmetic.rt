@@ -111,6 +111,16 @@ static NEXT_STATES: [u8; 256] = [
     /* 60 to 63 */ 122,  74,  75, 123,  124,  76,  77, 125,  124,  76,  77, 125,  124, 126, 127, 125,
 ];
 
+/// The number in a row and a column of rangeTabLps.
+#[inline(always)]
+fn width(p_state_idx: u8, q_range_idx: u8) -> u8
+    requires state { p_state_idx < 64 }
+    requires quarter { q_range_idx < 4 }
+    ensures { result ≡ slice_index_or (slice_index_or rangeTabLps p_state_idx []) q_range_idx 0 }
+{
+    RANGE_TAB_LPS[usize::from(p_state_idx)][usize::from(q_range_idx)]
+}
+
 /// rangeTabLps (9.3.4.3.2.1): the width of the less probable part, in a state and a quarter of the
 /// range. It is 2 to 240.
 #[inline(always)]
@@ -121,7 +131,7 @@ pub fn range_tab_lps(p_state_idx: u8, q_range_idx: u8) -> u8
     ensures least { 2 ≤ result }
     ensures most { result ≤ 240 }
 {
-    RANGE_TAB_LPS[usize::from(p_state_idx)][usize::from(q_range_idx)]
+    width(p_state_idx, q_range_idx)
 }
 
 /// transIdxLps (9.3.4.3.2.2): the state after the less probable value. It is 0 to 63.

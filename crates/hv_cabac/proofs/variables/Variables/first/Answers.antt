@@ -1,4 +1,4 @@
-use Rattle.std.proofs.Common.{◌≡◌, ℕ, List, refl, arith, length-set, ap, ◌∙◌, length}
+use Rattle.std.proofs.Common.{ℕ, refl, arith, length-set, ◌∙◌}
 use Rattle.std.proofs.lemmas.List.{length-replicate}
 use Rattle.hv_cabac.proofs.StartLemmas.{first_more, all_first}
 use Rattle.hv_cabac.proofs.variables.Variables.first.Goals as goal

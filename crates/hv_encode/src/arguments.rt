@@ -10,7 +10,8 @@ use std::env::Args;
 /// The words behind the program's name, all of them in their order, or `None` where they can't be
 /// kept.
 pub(crate) fn words_behind_name(alloc: Global, mut arguments: Args) -> Option<Words>
-    ensures { IfSome result (λ words. words ≡ map string_bytes (drop 1 (into_iter_items arguments))) }
+    ensures { IfSome result (λ words.
+        words ≡ map string_bytes (drop 1 (into_iter_items arguments))) }
 {
     let _name = arguments.next();
     let mut words = Words::new(alloc);

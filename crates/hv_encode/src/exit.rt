@@ -15,9 +15,9 @@ use std::alloc::Global;
 use std::sync::Wait;
 use std::thread::Threads;
 
-/// Encodes the source's video into the sink, and gives the exit code: 2 where the words are refused;
-/// where they are accepted and nothing fails, that of the status which the length of the input asks
-/// for, or 6, where there was not enough memory.
+/// Encodes the source's video into the sink, and gives the exit code: 2 where the words are
+/// refused; where they are accepted and nothing fails, that of the status which the length of the
+/// input asks for, or 6, where there was not enough memory.
 pub(crate) fn encode_to_exit<S: Source, K: Sink, P: Sink, R: Threads + Wait + Sync>(
     rt: &R,
     alloc: Global,

@@ -1,9 +1,11 @@
-//! The program `hv_encode`: raw video on standard input, an H.265 byte stream on standard output, and a
-//! line of how that ended on standard error.
+//! The program `hv_encode`: raw video on standard input, an H.265 byte stream on standard output,
+//! and a line of how that ended on standard error.
 #![tactic(auto)]
 
 mod arguments;
 mod exit;
+#[cfg(test)]
+mod tests;
 
 use crate::arguments::words_behind_name;
 use crate::exit::encode_to_exit;

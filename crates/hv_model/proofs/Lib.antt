@@ -1,4 +1,5 @@
 pub mod SliceDataLemmas
+mod ContextLemmas
 pub mod PayloadLemmas
 pub mod SliceLemmas
 pub mod EncodingLemmas

@@ -123,10 +123,10 @@ slices_kept cfg [] = refl
 slices_kept cfg (picture ∷ pictures) =
     ap (λ us. slice_unit cfg picture ∷ us) (slices_kept cfg pictures)
 
-shown : (cfg : Settings) → IsBuilt cfg → (picture : Picture) →
+picture_is_shown : (cfg : Settings) → IsBuilt cfg → (picture : Picture) →
     picture_of_unit (size_of cfg) (slice_unit cfg picture) ≡
-    Some (crop (encoding.picture_shown cfg picture) cfg.width cfg.height)
-shown cfg h picture =
+    Some (crop (encoding.recon_picture cfg picture) cfg.width cfg.height)
+picture_is_shown cfg h picture =
     let even_width : cfg.width % 2 ≡ 0 = h.valid.even_width in
     let even_height : cfg.height % 2 ≡ 0 = h.valid.even_height in
     let right : padded_width cfg - 2 * ((padded_width cfg - cfg.width) / 2) ≡ cfg.width =
@@ -137,14 +137,14 @@ shown cfg h picture =
     let places : List Site = encoding.picture_sites cfg in
     slices_back (size_of cfg) (qp_at cfg.qp 0) (encoding.coded_units places)
     (slice_unit cfg picture) (blocks_there cfg h) (coded_units_valid places) small refl refl ∙
-    ap₂ (λ w k. Some (crop (encoding.picture_shown cfg picture) w k)) right bottom
+    ap₂ (λ w k. Some (crop (encoding.recon_picture cfg picture) w k)) right bottom
 
-all_shown : (cfg : Settings) → IsBuilt cfg → (pictures : List Picture) →
+pictures_are_shown : (cfg : Settings) → IsBuilt cfg → (pictures : List Picture) →
     pictures_of_units (size_of cfg) (units_after_sets cfg pictures) ≡
     Some (encoding.recon_of cfg pictures)
-all_shown cfg h [] = refl
-all_shown cfg h (picture ∷ pictures) =
-    ap₂ (λ p ps. picture_then p ps) (shown cfg h picture) (all_shown cfg h pictures)
+pictures_are_shown cfg h [] = refl
+pictures_are_shown cfg h (picture ∷ pictures) =
+    ap₂ (λ p ps. picture_then p ps) (picture_is_shown cfg h picture) (pictures_are_shown cfg h pictures)
 
 parameters_given : (levels : ℕ) (size : Size) (vps_read : Option ℕ) (sps_read : Option (ℕ × Size))
     (pps_read : Option (Unit {0})) (after : List NalUnit) →
@@ -182,7 +182,7 @@ units_decoded cfg h (picture ∷ pictures) =
     us))
     (slices_kept cfg (picture ∷ pictures)) ∙
     sets_read cfg few (sizes_allowed cfg h.valid) slices ∙
-    all_shown cfg h (picture ∷ pictures)
+    pictures_are_shown cfg h (picture ∷ pictures)
 
 pub decoding_gives : DecodingGivesReconstruction
 decoding_gives cfg pictures h =
@@ -194,7 +194,7 @@ decoding_gives cfg pictures h =
 
 pub each_reconstructed : EachIsReconstructed
 each_reconstructed cfg pictures =
-    length-map pictures (λ picture. crop (encoding.picture_shown cfg picture) cfg.width cfg.height)
+    length-map pictures (λ picture. crop (encoding.recon_picture cfg picture) cfg.width cfg.height)
 
 -- ---- the test of the settings built
 

@@ -15,9 +15,9 @@ use Rattle.hv_entropy_model.specs.Oracle.{Oracle, begin, read, bits_left}
 use Rattle.hv_syntax_model.specs.Trees.{CodingTreeUnit}
 use Rattle.hv_syntax_model.specs.Bins.{Site, AreValid, slice_bins}
 use Rattle.hv_syntax_model.specs.BlockSyntax.{slice_segment_data}
-use Rattle.hv_model.specs.Decoding.{behind_alignment, is_slice_end, if_ended, slice_data, has_type, sites_of, picture_shown, slice_after_header}
+use Rattle.hv_model.specs.Decoding.{behind_alignment, is_slice_end, if_ended, slice_data, has_type, sites_of, shown_picture, slice_after_header}
 use Rattle.hv_stream_model.specs.BitLaws.{missing}
-use Rattle.hv_model.specs.PayloadLaws.{SliceDataIsRead, slice_of, SlicesAreRead, SlicesEnd}
+use Rattle.hv_model.specs.PayloadLaws.{SliceDataIsRead, payload_of_slice, SlicesAreRead, SlicesEnd}
 use Rattle.hv_stream_model.proofs.ZeroLemmas.{zeros, length-zeros}
 use Rattle.hv_stream_model.proofs.DigitLemmas.{digits-add}
 use Rattle.hv_stream_model.proofs.BitLemmas.{AreBits-digits, AreBits-append}
@@ -112,7 +112,7 @@ after_header : (size : Size) (qp n before : ℕ) (units : List CodingTreeUnit) �
     length (word I qp (slice_bins (sites_of size) units) ++ zeros n) % 8 ≡ 0 →
     slice_after_header size
     (Some (qp, padding_of before ++ (word I qp (slice_bins (sites_of size) units) ++ zeros n))) ≡
-    Some (picture_shown size units)
+    Some (shown_picture size units)
 after_header size qp n before units there valid few whole =
     let places : List Site = sites_of size in
     let bits : List ℕ = word I qp (slice_bins places units) ++ zeros n in
@@ -120,8 +120,8 @@ after_header size qp n before units there valid few whole =
     alignment-back before bits whole in
     let value : slice_data places qp bits ≡ Some units =
     slice_data-back places qp n units there valid few in
-    ap (λ o. option_map (picture_shown size) (option_and_then (slice_data places qp) o)) behind ∙
-    ap (option_map (picture_shown size)) value
+    ap (λ o. option_map (shown_picture size) (option_and_then (slice_data places qp) o)) behind ∙
+    ap (option_map (shown_picture size)) value
 
 when : {A : Type 0} (t : Bool) (o r : Option A) → t ≡ true → o ≡ r → cond t o None ≡ r
 when t o r p e = rw p e
@@ -149,7 +149,7 @@ slices_back size qp units nal there valid small kind given =
     ) in
     when (has_type 20 nal)
     (slice_after_header size (read_header read_idr_slice (bits_of nal.payload)))
-    (Some (picture_shown size units)) kind
+    (Some (shown_picture size units)) kind
     (ap (λ b. slice_after_header size (read_header read_idr_slice b)) bits ∙
     ap (slice_after_header size) back ∙
     after_header size qp n (length header) units there valid (omega arith) whole)
@@ -170,6 +170,6 @@ slices_end qp places units none =
     let header : List ℕ = aligned (bits_of_fields (idr_slice qp)) in
     let parts : header ++ word I qp list ≡ (header ++ w.front) ++ 1 ∷ [] =
     ap (λ c. header ++ c) w.whole ∙ sym (append_assoc header w.front (1 ∷ [])) in
-    let bytes : slice_of qp places units ≡ bytes_of (aligned (header ++ w.front)) =
+    let bytes : payload_of_slice qp places units ≡ bytes_of (aligned (header ++ w.front)) =
     ap bytes_of parts ∙ filled_one (header ++ w.front) in
     last_of-aligned (header ++ w.front) (ap last_of (sym bytes) ∙ none)

@@ -1,5 +1,5 @@
--- The settings that the encoder is built for so far: any size, and pictures that are each a group of their own, in which
--- nothing is chosen.
+-- The settings that the encoder is built for so far: any size, and pictures that are each a group
+-- of their own, in which nothing is chosen.
 use Rattle.std.specs.Prelude.{◌≡◌, Bool, nat_eq, ◌&&◌}
 use Rattle.std.specs.Bool.{Decides}
 use Rattle.hv_types.specs.declared.settings.Settings.{Settings}

@@ -1,6 +1,7 @@
--- Decoding (clauses 7 to 9 and Annex B): the pictures that a byte stream shows, in output order; none where it isn't a
--- stream of this profile. So far each picture is an IDR picture with blank trees.
-use Rattle.std.specs.Prelude.{ℕ, ◌+◌, ◌-◌, ◌*◌, ◌%◌, Bool, false, cond, not, nat_eq, nat_lt, nat_le, ◌&&◌, ◌||◌, List, [], ◌∷◌, length, take, drop, filter, map, replicate, Option, Some, None, option_and_then, option_map}
+-- Decoding (clauses 7 to 9 and Annex B): the pictures that a byte stream shows, in output order;
+-- none where it isn't a stream of this profile. So far each picture is an IDR picture with blank
+-- trees.
+use Rattle.std.specs.Prelude.{ℕ, ◌+◌, ◌-◌, ◌*◌, ◌%◌, Bool, false, cond, not, nat_eq, nat_lt, nat_le, ◌&&◌, ◌||◌, List, [], ◌∷◌, length, take, drop, filter, replicate, Option, Some, None, option_and_then, option_map}
 use Rattle.std.specs.List.{list_all}
 use Rattle.hv_types.specs.declared.bins.SliceKind.TheVariants.{I}
 use Rattle.hv_types.specs.declared.picture.Picture.{Picture}
@@ -13,9 +14,7 @@ use Rattle.hv_entropy_model.specs.Oracle.{Oracle, begin, read, bits_left}
 use Rattle.hv_syntax_model.specs.Trees.{CodingTreeUnit}
 use Rattle.hv_syntax_model.specs.Bins.{Site, sites}
 use Rattle.hv_syntax_model.specs.BlockSyntax.{slice_segment_data}
-use Rattle.hv_model.specs.Reconstruction.{unfiltered}
-use Rattle.hv_model.specs.Deblocking.{deblocked}
-use Rattle.hv_model.specs.SampleAdaptiveOffset.{shown}
+use Rattle.hv_model.specs.Reconstruction.{reconstructed}
 
 -- ---- parameter sets
 
@@ -34,7 +33,9 @@ parameters script unit = if_trailing (read_header script (bits_of unit.payload))
 -- a unit of this type, of the base layer and the lowest sub-layer
 abbrev pub has_type : ℕ → NalUnit → Bool
 has_type nal_unit_type unit =
-    nat_eq unit.nal_unit_type nal_unit_type && nat_eq unit.nuh_layer_id 0 && nat_eq unit.TemporalId 0
+    nat_eq unit.nal_unit_type nal_unit_type &&
+    nat_eq unit.nuh_layer_id 0 &&
+    nat_eq unit.TemporalId 0
 
 -- ---- a slice
 
@@ -58,25 +59,25 @@ if_ended bits (Some r) = cond (is_slice_end bits (bits_left r.1)) (Some r.0) Non
 -- slice_segment_data (7.3.8.1) of these blocks
 abbrev pub slice_data : List Site → ℕ → List ℕ → Option (List CodingTreeUnit)
 slice_data sites qp bits =
-    if_ended bits (option_and_then (λ oracle. read (slice_segment_data sites) oracle) (begin bits I qp))
+    if_ended bits
+    (option_and_then (λ oracle. read (slice_segment_data sites) oracle) (begin bits I qp))
 
 -- the blocks of a picture
 abbrev pub sites_of : Size → List Site
 sites_of size = sites size.pic_width_in_luma_samples size.pic_height_in_luma_samples
 
 -- what is shown of the picture, cropped by the conformance window
-abbrev pub picture_shown : Size → List CodingTreeUnit → Picture
-picture_shown size units =
+abbrev pub shown_picture : Size → List CodingTreeUnit → Picture
+shown_picture size units =
     let width = size.pic_width_in_luma_samples in
     let height = size.pic_height_in_luma_samples in
-    crop
-    (shown (deblocked (unfiltered width height (map (λ unit. unit.tree) units))) (map (λ unit. unit.sao) units))
+    crop (reconstructed width height units)
     (width - 2 * size.conf_win_right_offset) (height - 2 * size.conf_win_bottom_offset)
 
 abbrev pub slice_after_header : Size → Option (ℕ × List ℕ) → Option Picture
 slice_after_header size None = None
 slice_after_header size (Some header) =
-    option_map (picture_shown size)
+    option_map (shown_picture size)
     (option_and_then (slice_data (sites_of size) header.0) (behind_alignment header.1))
 
 -- an IDR picture: a unit of type IDR_N_LP with its slice
@@ -104,7 +105,8 @@ pictures_of_units size (unit ∷ units) =
     picture_then (picture_of_unit size unit) (pictures_of_units size units)
 
 -- VPS and SPS tell the same number of temporal levels
-abbrev pub with_parameters : Option ℕ → Option (ℕ × Size) → Option (Unit {0}) → List NalUnit → Option (List Picture)
+abbrev pub with_parameters :
+    Option ℕ → Option (ℕ × Size) → Option (Unit {0}) → List NalUnit → Option (List Picture)
 with_parameters None sps pps units = None
 with_parameters (Some levels) None pps units = None
 with_parameters (Some levels) (Some sps) None units = None
@@ -117,7 +119,8 @@ pictures_after_sets (vps ∷ []) = None
 pictures_after_sets (vps ∷ sps ∷ []) = None
 pictures_after_sets (vps ∷ sps ∷ pps ∷ units) =
     cond (has_type 32 vps && has_type 33 sps && has_type 34 pps)
-    (with_parameters (parameters read_vps vps) (parameters read_sps sps) (parameters read_pps pps) units)
+    (with_parameters
+    (parameters read_vps vps) (parameters read_sps sps) (parameters read_pps pps) units)
     None
 
 abbrev pub decode_units : List NalUnit → Option (List Picture)

@@ -1,5 +1,5 @@
--- The one-thread encoder: the bytes that are written for a list of pictures, and the pictures that a decoder shows. So
--- far each picture is a group of its own, at effort 0.
+-- The one-thread encoder: the bytes that are written for a list of pictures, and the pictures that
+-- a decoder shows. So far each picture is a group of its own, at effort 0.
 use Rattle.std.specs.Prelude.{ℕ, List, [], ◌∷◌, ◌++◌, map, flat_map}
 use Rattle.hv_types.specs.declared.bins.SliceKind.TheVariants.{I}
 use Rattle.hv_types.specs.declared.settings.Settings.{Settings}
@@ -17,25 +17,27 @@ use Rattle.hv_syntax_model.specs.Trees.{Off, CodingTreeUnit}
 use Rattle.hv_syntax_model.specs.Bins.{Site, sites, is_empty, slice_bins}
 use Rattle.hv_entropy_model.specs.CodeWord.{word}
 use Rattle.hv_model.specs.ModeDecision.{best}
-use Rattle.hv_model.specs.Reconstruction.{unfiltered}
-use Rattle.hv_model.specs.Deblocking.{deblocked}
-use Rattle.hv_model.specs.SampleAdaptiveOffset.{shown}
+use Rattle.hv_model.specs.Reconstruction.{reconstructed}
 
 -- ---- a picture
 
--- the coding tree units of these blocks: sample adaptive offset is off, and the last one ends the slice
+-- the coding tree units of these blocks: sample adaptive offset is off, and the last one ends the
+-- slice
 abbrev pub coded_units : List Site → List CodingTreeUnit
 coded_units [] = []
 coded_units (site ∷ sites) =
-    record { sao = Off; tree = best site; end_of_slice_segment_flag = is_empty sites } ∷ coded_units sites
+    record { sao = Off; tree = best site; end_of_slice_segment_flag = is_empty sites } ∷
+    coded_units sites
 
 -- the slice data of a picture with these blocks
 abbrev pub slice_data_of : ℕ → List Site → List ℕ
 slice_data_of qp sites = word I qp (slice_bins sites (coded_units sites))
 
--- the slice of an IDR picture: its header, a byte_alignment, and the code word with zeros to the byte
+-- the slice of an IDR picture: its header, a byte_alignment, and the code word with zeros to the
+-- byte
 abbrev pub slice_payload : ℕ → List Site → List ℕ
-slice_payload qp sites = bytes_of (aligned (bits_of_fields (idr_slice qp)) ++ slice_data_of qp sites)
+slice_payload qp sites =
+    bytes_of (aligned (bits_of_fields (idr_slice qp)) ++ slice_data_of qp sites)
 
 -- the blocks of a padded picture
 abbrev pub picture_sites : Settings → List Site
@@ -45,13 +47,10 @@ picture_sites cfg = sites (padded_width cfg) (padded_height cfg)
 abbrev pub picture_unit : Settings → Picture → List ℕ
 picture_unit cfg picture = unit_of_payload 20 (slice_payload (qp_at cfg.qp 0) (picture_sites cfg))
 
--- what a decoder shows of it, before it is cropped
-abbrev pub picture_shown : Settings → Picture → Picture
-picture_shown cfg picture =
-    let units = coded_units (picture_sites cfg) in
-    shown
-    (deblocked (unfiltered (padded_width cfg) (padded_height cfg) (map (λ unit. unit.tree) units)))
-    (map (λ unit. unit.sao) units)
+-- what a decoder makes of it, before it is cropped
+abbrev pub recon_picture : Settings → Picture → Picture
+recon_picture cfg picture =
+    reconstructed (padded_width cfg) (padded_height cfg) (coded_units (picture_sites cfg))
 
 -- ---- a video
 
@@ -63,7 +62,8 @@ encode_of cfg (picture ∷ pictures) =
 
 -- the reconstructed pictures, cropped, in output order
 abbrev pub recon_of : Settings → List Picture → List Picture
-recon_of cfg pictures = map (λ picture. crop (picture_shown cfg picture) cfg.width cfg.height) pictures
+recon_of cfg pictures =
+    map (λ picture. crop (recon_picture cfg picture) cfg.width cfg.height) pictures
 
 abbrev pub output_as : Emit → Settings → List Picture → List ℕ
 output_as Stream cfg pictures = encode_of cfg pictures

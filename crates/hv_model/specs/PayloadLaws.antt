@@ -10,7 +10,7 @@ use Rattle.hv_stream_model.specs.Headers.{Size, idr_slice}
 use Rattle.hv_entropy_model.specs.CodeWord.{word}
 use Rattle.hv_syntax_model.specs.Trees.{CodingTreeUnit}
 use Rattle.hv_syntax_model.specs.Bins.{Site, AreValid, slice_bins}
-use Rattle.hv_model.specs.Decoding.{parameters, behind_alignment, slice_data, has_type, sites_of, picture_shown, picture_of_unit}
+use Rattle.hv_model.specs.Decoding.{parameters, behind_alignment, slice_data, has_type, sites_of, shown_picture, picture_of_unit}
 
 -- a parameter set (7.3.2), from its fields and their trailing bits
 abbrev pub ParametersAreRead : Type 0 → Type 0
@@ -29,12 +29,13 @@ AlignmentIsRead =
 -- slice_segment_data (7.3.8.1), from its code word and zeros to the byte
 abbrev pub SliceDataIsRead : Type 0
 SliceDataIsRead =
-    (sites : List Site) (qp zeros : ℕ) (units : List CodingTreeUnit) → sites ≢ [] → AreValid sites units →
-    zeros < 8 → slice_data sites qp (word I qp (slice_bins sites units) ++ replicate zeros 0) ≡ Some units
+    (sites : List Site) (qp zeros : ℕ) (units : List CodingTreeUnit) →
+    sites ≢ [] → AreValid sites units → zeros < 8 →
+    slice_data sites qp (word I qp (slice_bins sites units) ++ replicate zeros 0) ≡ Some units
 
 -- the payload of a slice of these blocks
-abbrev pub slice_of : ℕ → List Site → List CodingTreeUnit → List ℕ
-slice_of qp sites units =
+abbrev pub payload_of_slice : ℕ → List Site → List CodingTreeUnit → List ℕ
+payload_of_slice qp sites units =
     bytes_of (aligned (bits_of_fields (idr_slice qp)) ++ word I qp (slice_bins sites units))
 
 -- the picture of a unit with such a payload
@@ -42,10 +43,11 @@ abbrev pub SlicesAreRead : Type 0
 SlicesAreRead =
     (size : Size) (qp : ℕ) (units : List CodingTreeUnit) (nal : NalUnit) →
     sites_of size ≢ [] → AreValid (sites_of size) units → qp ≤ 51 →
-    has_type 20 nal ≡ true → nal.payload ≡ slice_of qp (sites_of size) units →
-    picture_of_unit size nal ≡ Some (picture_shown size units)
+    has_type 20 nal ≡ true → nal.payload ≡ payload_of_slice qp (sites_of size) units →
+    picture_of_unit size nal ≡ Some (shown_picture size units)
 
 -- its last byte isn't 0
 abbrev pub SlicesEnd : Type 0
 SlicesEnd =
-    (qp : ℕ) (sites : List Site) (units : List CodingTreeUnit) → last_of (slice_of qp sites units) ≢ 0
+    (qp : ℕ) (sites : List Site) (units : List CodingTreeUnit) →
+    last_of (payload_of_slice qp sites units) ≢ 0

@@ -3,5 +3,6 @@ use Rattle.std.specs.Prelude.{List}
 use Rattle.hv_types.specs.declared.picture.Picture.{Picture}
 use Rattle.hv_syntax_model.specs.Trees.{Offsets}
 
-abbrev pub shown : Picture → List Offsets → Picture
-shown picture offsets = picture
+-- saoPicture
+abbrev pub sao_picture : Picture → List Offsets → Picture
+sao_picture picture offsets = picture

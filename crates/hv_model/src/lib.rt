@@ -1,6 +1,6 @@
-//! What the encoder is proved against: decoding of H.265 for this profile, and the one-thread encoder,
-//! as definitions over those of the model crates below. They stand in `specs/`; the functions here are
-//! empty, and each carries a law of the definitions as its contract.
+//! What the encoder is proved against: decoding of H.265 for this profile, and the one-thread
+//! encoder, as definitions over those of the model crates below. They stand in `specs/`; the
+//! functions here are empty, and each carries a law of the definitions as its contract.
 #![tactic(auto)]
 
 mod encoding_laws;
@@ -13,4 +13,4 @@ pub use payload_laws::{
     alignment_is_read, parameters_are_read, slice_data_is_read, slices_are_read, slices_end,
 };
 pub use round_trip::{built_is_decided, decoding_gives_reconstruction, each_is_reconstructed};
-pub use slice_data_laws::{coded_units_are_valid, slice_data_ends};
+pub use slice_data_laws::{coded_units_are_valid, slice_data_contexts_are_valid, slice_data_ends};

@@ -1,10 +1,17 @@
-//! How slice data ends, and what the encoder codes in it.
-ghost use Rattle.hv_model.specs.SliceDataLaws.{SliceDataEnds, CodedUnitsAreValid};
+//! How slice data ends, which contexts it asks for, and what the encoder codes in it.
+
+ghost use Rattle.hv_model.specs.SliceDataLaws.{SliceDataEnds, SliceDataContextsAreValid, CodedUnitsAreValid};
 
 /// The last bin of the slice data of at least one coding tree block, and no other of its bins, ends
 /// the slice.
 pub fn slice_data_ends()
     ensures { SliceDataEnds }
+{}
+
+/// Each context coded bin of the slice data of coding tree units that may be coded there has a
+/// context variable of its own table (9.3.4.2).
+pub fn slice_data_contexts_are_valid()
+    ensures { SliceDataContextsAreValid }
 {}
 
 /// The coding tree units that the encoder chooses for the coding tree blocks of a picture may be

@@ -125,10 +125,10 @@ fn put_merge<B: BinSink>(sink: &mut B, is_there: bool)
     }
 }
 
-/// coding_quadtree (7.3.8.4) of a node of this size, 0 to 3, in which nothing is chosen. `width` and
-/// `height` say how much of the picture there is from its upper left corner on, in luma samples: a
-/// node that crosses the picture's edge is split without a flag, down to 8x8, and nothing is coded of
-/// one outside.
+/// coding_quadtree (7.3.8.4) of a node of this size, 0 to 3, in which nothing is chosen. `width`
+/// and `height` say how much of the picture there is from its upper left corner on, in luma
+/// samples: a node that crosses the picture's edge is split without a flag, down to 8x8, and
+/// nothing is coded of one outside.
 fn put_quadtree<B: BinSink>(sink: &mut B, size: u8, width: u32, height: u32)
     requires size { size ≤ 3 }
     ensures { Puts B.stands_for sink.old sink.new (tree_bins size (blank_tree size width height)) }

@@ -91,7 +91,8 @@ Concludes cfg d w r NoMemory = Concluded (EndsNoMemory cfg d w) (Reports r no_me
 Concludes cfg d w r TooLong = Concluded (EndsTooLong cfg d w) (Reports r too_long_line)
 Concludes cfg d w r ReportFault = ConcludedReportFault cfg d w r
 
--- the status of an input that is too long or not, and is whole pictures or has so many bytes of one more
+-- the status of an input that is too long or not, and is whole pictures or has so many bytes of one
+-- more
 abbrev pub due : Bool → Bool → ℕ → Status
 due true whole have = TooLong
 due false true have = Ok

@@ -29,8 +29,8 @@ pub fn encode_steady<K: Sink, P: Sink, G: Gate, R: Threads + Wait + Sync>(
     run_encode(rt, alloc, words, source, out, report, gate)
 }
 
-/// The top call from memory to memory: at `Ok` the source is empty, the output of its pictures stands
-/// behind what the sink had, and their line behind what the report had.
+/// The top call from memory to memory: at `Ok` the source is empty, the output of its pictures
+/// stands behind what the sink had, and their line behind what the report had.
 pub fn encode_in_memory<G: Gate, R: Threads + Wait + Sync>(
     rt: &R,
     alloc: Global,

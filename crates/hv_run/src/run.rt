@@ -27,18 +27,19 @@ use std::alloc::Global;
 use std::sync::Wait;
 use std::thread::Threads;
 
-/// Reads the words of a command line, encodes the video of the source, writes the output, and then the
-/// line of the status to the report.
+/// Reads the words of a command line, encodes the video of the source, writes the output, and then
+/// the line of the status to the report.
 ///
-/// The words are `--width W --height H --qp Q --levels L --group 1 --effort 0`, in this order, with any
-/// size that `Config::checked` accepts, `Q` in 0 to 51 and `L` in 0 to 3. The video is raw 8-bit 4:2:0,
-/// at most 400,000 pictures, each of which is a group of its own. A group is read, encoded and written
-/// before the next one is read. The gate isn't used yet, and no thread is started. The first refusal in
-/// the order of words, reading, encoding, writing and report ends the call.
+/// The words are `--width W --height H --qp Q --levels L --group 1 --effort 0`, in this order, with
+/// any size that `Config::checked` accepts, `Q` in 0 to 51 and `L` in 0 to 3. The video is raw
+/// 8-bit 4:2:0, at most 400,000 pictures, each of which is a group of its own. A group is read,
+/// encoded and written before the next one is read. The gate isn't used yet, and no thread is
+/// started. The first refusal in the order of words, reading, encoding, writing and report ends the
+/// call.
 ///
-/// A clause on `cfg` speaks of accepted words, which ask for these settings; one on `bytes` of a source
-/// that tells its bytes, and that had these left; one on `left` of a source that has these left. What is
-/// said of `written` holds where the sink tells its bytes.
+/// A clause on `cfg` speaks of accepted words, which ask for these settings; one on `bytes` of a
+/// source that tells its bytes, and that had these left; one on `left` of a source that has these
+/// left. What is said of `written` holds where the sink tells its bytes.
 pub fn run_encode<S: Source, K: Sink, P: Sink, G: Gate, R: Threads + Wait + Sync>(
     _rt: &R,
     alloc: Global,
@@ -55,7 +56,8 @@ pub fn run_encode<S: Source, K: Sink, P: Sink, G: Gate, R: Threads + Wait + Sync
     ensures ok_written { (cfg : SettingsSeen) (bytes : List ℕ) → AsksFor words.now cfg →
         S.left source.old ≡ Some bytes → IsTrue (is_whole result) →
         Grows (K.written out.old) (K.written out.new) (output cfg (pictures_in cfg bytes)) }
-    ensures ok_source_faults { IsTrue (is_whole result) → S.faults source.new ≡ S.faults source.old }
+    ensures ok_source_faults { IsTrue (is_whole result) →
+        S.faults source.new ≡ S.faults source.old }
     ensures ok_out_faults { IsTrue (is_whole result) → K.faults out.new ≡ K.faults out.old }
     ensures ok_report { (cfg : SettingsSeen) (bytes : List ℕ) → AsksFor words.now cfg →
         S.left source.old ≡ Some bytes → result ≡ Status.Ok →
@@ -65,7 +67,8 @@ pub fn run_encode<S: Source, K: Sink, P: Sink, G: Gate, R: Threads + Wait + Sync
     // Decoding the stream of any pictures gives the reconstructed ones, one for each.
     ensures decoded { (cfg : SettingsSeen) (v : List PictureSeen) → AsksFor words.now cfg →
         decode_of (encode_of cfg v) ≡ Some (recon_of cfg v) }
-    ensures as_many { (cfg : SettingsSeen) (v : List PictureSeen) → length (recon_of cfg v) ≡ length v }
+    ensures as_many { (cfg : SettingsSeen) (v : List PictureSeen) →
+        length (recon_of cfg v) ≡ length v }
 
     // The words are refused, and nothing is touched.
     ensures words_only { result ≡ Status.Words → IsRefused words.now }
@@ -74,9 +77,10 @@ pub fn run_encode<S: Source, K: Sink, P: Sink, G: Gate, R: Threads + Wait + Sync
     ensures words_out { IsRefused words.now → out.new ≡ out.old }
 
     // The cause of each other status.
-    ensures read_fault { result ≡ Status.ReadFault → Rises (S.faults source.old) (S.faults source.new) }
-    ensures short_picture { (cfg : SettingsSeen) (bytes : List ℕ) (have : ℕ) → AsksFor words.now cfg →
-        S.left source.old ≡ Some bytes → result ≡ Status.ShortPicture have →
+    ensures read_fault { result ≡ Status.ReadFault →
+        Rises (S.faults source.old) (S.faults source.new) }
+    ensures short_picture { (cfg : SettingsSeen) (bytes : List ℕ) (have : ℕ) →
+        AsksFor words.now cfg → S.left source.old ≡ Some bytes → result ≡ Status.ShortPicture have →
         EndsWithin cfg have bytes (S.left source.new) }
     ensures write_fault { result ≡ Status.WriteFault → Rises (K.faults out.old) (K.faults out.new) }
     ensures too_long { (cfg : SettingsSeen) (bytes : List ℕ) → AsksFor words.now cfg →
@@ -102,13 +106,15 @@ pub fn run_encode<S: Source, K: Sink, P: Sink, G: Gate, R: Threads + Wait + Sync
         Rises (P.faults report.old) (P.faults report.new) }
     ensures report_part { (cfg : SettingsSeen) (bytes : List ℕ) → AsksFor words.now cfg →
         S.left source.old ≡ Some bytes → result ≡ Status.ReportFault →
-        PutsPart (P.written report.old) (P.written report.new) (line_of cfg (pictures_in cfg bytes)) }
+        PutsPart (P.written report.old) (P.written report.new)
+        (line_of cfg (pictures_in cfg bytes)) }
     ensures words_report { (error : WordsErrorSeen) →
         refusal words.now ≡ Some error → result ≡ Status.Words →
         Reports (put P.written P.faults report.old report.new) (words_line error) }
     ensures short_report { (cfg : SettingsSeen) (have : ℕ) → AsksFor words.now cfg →
         result ≡ Status.ShortPicture have →
-        Reports (put P.written P.faults report.old report.new) (short_line have (picture_bytes cfg)) }
+        Reports (put P.written P.faults report.old report.new)
+        (short_line have (picture_bytes cfg)) }
     ensures other_report { (line : List ℕ) → fixed_line result ≡ Some line →
         Reports (put P.written P.faults report.old report.new) line }
 

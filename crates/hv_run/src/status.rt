@@ -2,7 +2,8 @@
 
 ghost use Rattle.std.specs.Prelude.{◌≡◌};
 
-/// How the top call ends. The status of a program is its `code`. Each status has a line in the report.
+/// How the top call ends. The status of a program is its `code`. Each status has a line in the
+/// report.
 #[derive(Clone, Copy, Debug, PartialEq, Eq)]
 pub enum Status {
     /// All input was read to its end, all output is written, and the report has its line.

@@ -18,11 +18,11 @@ const COMMAND: &str = "--width 64 --height 64 --qp 26 --levels 0 --group 1 --eff
 #[rattlefmt::skip]
 const STREAM: [u8; 92] = [
     // the video parameter set
-    0, 0, 0, 1, 0x40, 0x01, 0x0C, 0x01, 0xFF, 0xFF, 0x01, 0x60, 0, 0, 3, 0, 0x90, 0, 0, 3, 0, 0, 3, 0,
-    0x99, 0xAC, 0x09,
+    0, 0, 0, 1, 0x40, 0x01, 0x0C, 0x01, 0xFF, 0xFF, 0x01, 0x60, 0, 0, 3, 0, 0x90, 0, 0, 3, 0, 0, 3,
+    0, 0x99, 0xAC, 0x09,
     // the sequence parameter set
-    0, 0, 0, 1, 0x42, 0x01, 0x01, 0x01, 0x60, 0, 0, 3, 0, 0x90, 0, 0, 3, 0, 0, 3, 0, 0x99, 0xA0, 0x20,
-    0x81, 0x05, 0x96, 0xB9, 0x24, 0xCA, 0x08,
+    0, 0, 0, 1, 0x42, 0x01, 0x01, 0x01, 0x60, 0, 0, 3, 0, 0x90, 0, 0, 3, 0, 0, 3, 0, 0x99, 0xA0,
+    0x20, 0x81, 0x05, 0x96, 0xB9, 0x24, 0xCA, 0x08,
     // the picture parameter set
     0, 0, 0, 1, 0x44, 0x01, 0xC0, 0x71, 0x80, 0x12,
     // the slices
@@ -60,8 +60,11 @@ fn small(alloc: Global, at_most: u32, failing: &[u64]) -> Result<MemorySink, NoM
     MemorySink::new(alloc, 100, at_most.max(1), failing.to_vec(alloc)?)
 }
 
-/// What an encoding is tried with: how many bytes the source has and gives a call, how many a sink and
-/// the report take a call, and the number of the call of each that fails.
+/// The number of a call that isn't reached.
+const NEVER: u64 = u64::MAX;
+
+/// What an encoding is tried with: how many bytes the source has and gives a call, how many a sink
+/// and the report take a call, and the number of the call of each that fails.
 #[derive(Clone, Copy)]
 struct Trial {
     bytes: usize,
@@ -80,9 +83,9 @@ fn trial_of(bytes: usize) -> Trial {
         given: 9000,
         taken: 100,
         told: 100,
-        failing_read: 99,
-        failing_write: 99,
-        failing_line: 99,
+        failing_read: NEVER,
+        failing_write: NEVER,
+        failing_line: NEVER,
     }
 }
 
@@ -161,8 +164,8 @@ fn calls_that_fail(rt: HostRuntime) -> Result<(), Fail> {
     Ok(())
 }
 
-/// A report that fails changes no status but `Ok`, and the output is whole then. A report that takes
-/// all that there is has the line in one write: the second one would fail.
+/// A report that fails changes no status but `Ok`, and the output is whole then. A report that
+/// takes all that there is has the line in one write: the second one would fail.
 #[test]
 #[rattlefmt::skip]
 fn reports_that_fail(rt: HostRuntime) -> Result<(), Fail> {
@@ -193,7 +196,7 @@ fn words_that_are_refused(rt: HostRuntime) -> Result<(), Fail> {
         ("--width 64 --height 64 --qp +26 --levels 0 --group 1 --effort 0", "bad words\n"),
         ("--width 65 --height 64 --qp 26 --levels 0 --group 1 --effort 0", "odd size\n"),
         ("--width 64 --height 2178 --qp 26 --levels 0 --group 1 --effort 0", "size out of range\n"),
-        ("--width 4096 --height 2176 --qp 26 --levels 0 --group 31 --effort 0", "group too large\n"),
+        ("--width 4096 --height 2176 --qp 9 --levels 0 --group 31 --effort 0", "group too large\n"),
         ("--width 64 --height 64 --qp 52 --levels 0 --group 1 --effort 0", "value out of range\n"),
         ("--width 64 --height 64 --qp 26 --levels 0 --group 2 --effort 0", "not built\n"),
     ] {
@@ -281,4 +284,22 @@ fn encode_picture<R: Abort + Threads + Wait + Sync>(rt: &R, alloc: Global) -> Re
 #[test]
 fn answers_want_of_memory(rt: HostRuntime) {
     let _ = encode_picture(&rt, rt.alloc());
+}
+
+/// The codes of a program, which a script looks at.
+#[test]
+#[rattlefmt::skip]
+fn codes_of_statuses(rt: HostRuntime) {
+    for (status, code) in [
+        (Status::Ok, 0),
+        (Status::Words, 2),
+        (Status::ReadFault, 3),
+        (Status::ShortPicture { have: 1 }, 4),
+        (Status::WriteFault, 5),
+        (Status::NoMemory, 6),
+        (Status::TooLong, 7),
+        (Status::ReportFault, 8),
+    ] {
+        assert_eq!(rt; status.code(), code);
+    }
 }

@@ -1,5 +1,6 @@
--- What holds when the top call has answered: of the bytes that a source had `before` the call and has `now`, and of those
--- that a sink had `old` and has `new`, where source and sink tell their bytes.
+-- What holds when the top call has answered: of the bytes that a source had `before` the call and
+-- has `now`, and of those that a sink had `old` and has `new`, where source and sink tell their
+-- bytes.
 use Rattle.std.specs.Prelude.{◌≡◌, ◌⊎◌, ℕ, ◌+◌, ◌-◌, ◌*◌, ◌/◌, ◌<◌, ◌≤◌, List, [], length, take, drop, Option, Some}
 use Rattle.hv_types.specs.declared.settings.Settings.{Settings}
 use Rattle.hv_types.specs.declared.picture.Picture.{Picture}
@@ -31,7 +32,8 @@ pub record IsReadToEnd (cfg : Settings) (bytes : List ℕ) (now : Option (List �
   pub few : length (pictures_in cfg bytes) ≤ most_pictures
 
 -- the input ended within a picture, of which it has so many bytes
-pub record EndsWithin (cfg : Settings) (have : ℕ) (bytes : List ℕ) (now : Option (List ℕ)) : Type 0 where
+pub record EndsWithin (cfg : Settings) (have : ℕ) (bytes : List ℕ) (now : Option (List ℕ)) :
+    Type 0 where
   pub left : now ≡ Some []
   pub part : have ≡ length (rest_in cfg bytes)
   pub some : 0 < have
@@ -67,13 +69,15 @@ pub record AreGroups (cfg : Settings) (bytes left : List ℕ) (m : ℕ) : Type 0
       ((left ≡ []) × (rest_in cfg bytes ≡ []) × (m ≡ length (pictures_in cfg bytes)))
 
 -- some groups are written
-pub record WroteSome (cfg : Settings) (bytes left : List ℕ) (old new : Option (List ℕ)) : Type 0 where
+pub record WroteSome (cfg : Settings) (bytes left : List ℕ) (old new : Option (List ℕ)) :
+    Type 0 where
   pub m : ℕ
   pub groups : AreGroups cfg bytes left m
   pub wrote : Grows old new (output cfg (take m (pictures_read cfg bytes left)))
 
 -- a part of some groups is written, from their first byte on
-pub record WrotePart (cfg : Settings) (bytes left : List ℕ) (old new : Option (List ℕ)) : Type 0 where
+pub record WrotePart (cfg : Settings) (bytes left : List ℕ) (old new : Option (List ℕ)) :
+    Type 0 where
   pub m : ℕ
   pub groups : AreGroups cfg bytes left m
   pub wrote : PutsPart old new (output cfg (take m (pictures_read cfg bytes left)))

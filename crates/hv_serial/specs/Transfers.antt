@@ -1,5 +1,6 @@
--- What calls moved from a source and to a sink: of the bytes that a source had `before` a call and has `now`, and of those
--- that a sink had `old` and has `new`, where source and sink tell their bytes.
+-- What calls moved from a source and to a sink: of the bytes that a source had `before` a call and
+-- has `now`, and of those that a sink had `old` and has `new`, where source and sink tell their
+-- bytes.
 use Rattle.std.specs.Prelude.{◌≡◌, ℕ, ◌<◌, ◌≤◌, List, ◌++◌, length, take, drop, Option, Some}
 
 -- ---- a source and a sink, on both sides of a call

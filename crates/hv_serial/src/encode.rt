@@ -44,9 +44,9 @@ pub enum EncodeError {
 /// The pictures that a video may have.
 const MOST_PICTURES: u32 = 400_000;
 
-/// Reads pictures until the input ends, and encodes and writes each before the next one is read. No read
-/// asks for more than the picture still lacks, and after the last picture that a video may have for one
-/// byte. The buffer for the raw picture is taken once.
+/// Reads pictures until the input ends, and encodes and writes each before the next one is read. No
+/// read asks for more than the picture still lacks, and after the last picture that a video may
+/// have for one byte. The buffer for the raw picture is taken once.
 pub fn encode_video<S: Source, K: Sink>(
     alloc: Global,
     config: &Config,
@@ -98,8 +98,8 @@ fn one_more(totals: Totals, bytes: usize) -> Totals
     }
 }
 
-/// Reads the picture of this number, from 0, into `raw`, encodes it, and writes its bytes: how many they are, or `None`
-/// where the input has ended.
+/// Reads the picture of this number, from 0, into `raw`, encodes it, and writes its bytes: how many
+/// they are, or `None` where the input has ended.
 fn encode_next<S: Source, K: Sink>(
     alloc: Global,
     config: &Config,
@@ -147,7 +147,8 @@ fn write_picture<K: Sink>(
     Ok(bytes.len())
 }
 
-/// The bytes of the picture of this number, a group of its own, with the parameter sets before the first one.
+/// The bytes of the picture of this number, a group of its own, with the parameter sets before the
+/// first one.
 fn encode_picture(
     alloc: Global,
     config: &Config,

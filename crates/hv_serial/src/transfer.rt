@@ -15,7 +15,8 @@ pub fn fill<S: Source>(source: &mut S, buffer: &mut [u8]) -> Result<usize, Faile
         Fills bytes (S.left source.new) buffer.new n) }
     ensures end { IfOk result (λ n. n < length buffer.new → EndsAfter (S.left source.old) n) }
     ensures no_fault { OnOk result (S.faults source.new ≡ S.faults source.old) }
-    ensures err { OnErr result (StopsShort (S.left source.old) (S.left source.new) (length buffer.new)) }
+    ensures err { OnErr result
+        (StopsShort (S.left source.old) (S.left source.new) (length buffer.new)) }
     ensures fault { OnErr result (Rises (S.faults source.old) (S.faults source.new)) }
 {
     let mut filled = 0;

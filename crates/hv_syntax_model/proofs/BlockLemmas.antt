@@ -8,7 +8,7 @@ use Rattle.hv_types.specs.Bins.{Bin, terminate_bin}
 use Rattle.hv_lemmas.specs.Booleans.{same}
 use Rattle.hv_stream_model.specs.Scripts.{Reads, nothing, one, ◌>>=◌, Done}
 use Rattle.hv_syntax_model.specs.Trees.{Offsets, Off, Tree, Leaf, Split as SplitTree, Outside, Intra, CodingTreeUnit, dc_mode, side, is_outside, crosses, blank_tree}
-use Rattle.hv_syntax_model.specs.Bins.{bin, Site, sites, sites_from, blocks_over, is_empty, sao_bins, transform_bins, unit_bins, tree_bins, bins, slice_bins, IsValid}
+use Rattle.hv_syntax_model.specs.Bins.{bin, Site, sites, sites_from, blocks_over, is_empty, sao_bins, transform_bins, unit_bins, tree_bins, bins, slice_bins, IsValidTree}
 use Rattle.hv_syntax_model.specs.BlockSyntax.{BlockScript, element, sao, transform_tree, coding_unit, coding_quadtree, coding_tree_unit}
 use Rattle.hv_syntax_model.specs.BlockLaws.{CodingTreeUnitsAreRead, SliceDataIsReadBack, SitesAreThere}
 use Rattle.hv_stream_model.proofs.ScriptLemmas.{reads_then, reads_map, where_true}
@@ -91,7 +91,7 @@ reads_sao true false width height Off = one (one (one nothing))
 reads_sao true true width height Off = one (one (one (one nothing)))
 
 reads_valid : (place : Site) (offsets : Offsets) (tree : Tree) (last : Bool) →
-    IsValid place tree →
+    IsValidTree place tree →
     let unit : CodingTreeUnit =
     record { sao = offsets; tree = tree; end_of_slice_segment_flag = last } in
     Reads (coding_tree_unit place) (bins place unit) unit

@@ -1,5 +1,5 @@
--- The bins of slice data and its coding tree units (7.3.8, binarized by 9.3.3, with the contexts of 9.3.4.2). So far of
--- blank trees.
+-- The bins of slice data and its coding tree units (7.3.8, binarized by 9.3.3, with the contexts of
+-- 9.3.4.2). So far of blank trees.
 use Rattle.std.specs.Prelude.{◌≡◌, ℕ, zero, suc, ◌+◌, ◌-◌, ◌*◌, ◌/◌, ◌%◌, Bool, true, false, cond, nat_lt, List, [], ◌∷◌, ◌++◌}
 use Rattle.hv_types.specs.declared.bins.Ctx.{Ctx}
 use Rattle.hv_types.specs.declared.bins.CtxTable.{CtxTable}
@@ -23,8 +23,8 @@ ctb_side = 64
 abbrev pub blocks_over : ℕ → ℕ
 blocks_over samples = (samples + (ctb_side - 1)) / ctb_side
 
--- where a block lies: whether there are blocks at its left and above it, and how much of the picture there is from its
--- upper left corner on
+-- where a block lies: whether there are blocks at its left and above it, and how much of the
+-- picture there is from its upper left corner on
 pub record Site : Type 0 where
   pub has_left : Bool
   pub has_above : Bool
@@ -47,35 +47,39 @@ site width height index =
 -- so many blocks from this number on
 abbrev pub sites_from : ℕ → ℕ → ℕ → ℕ → List Site
 sites_from zero width height index = []
-sites_from (suc count) width height index = site width height index ∷ sites_from count width height (index + 1)
+sites_from (suc count) width height index =
+    site width height index ∷ sites_from count width height (index + 1)
 
 unfoldable pub sites : ℕ → ℕ → List Site
 sites width height = sites_from (blocks_over width * blocks_over height) width height 0
 
 -- ---- bins
 
--- sao (7.3.8.3): no sao_merge_left_flag and no sao_merge_up_flag; sao_type_idx_luma and sao_type_idx_chroma are 0
+-- sao (7.3.8.3): no sao_merge_left_flag and no sao_merge_up_flag; sao_type_idx_luma and
+-- sao_type_idx_chroma are 0
 abbrev pub merge_bins : Bool → List Bin
 merge_bins is_there = cond is_there (bin SaoMerge 0 false ∷ []) []
 
 abbrev pub sao_bins : Site → Offsets → List Bin
 sao_bins site Off =
-    merge_bins site.has_left ++ merge_bins site.has_above ++ bin SaoType 0 false ∷ bin SaoType 0 false ∷ []
+    merge_bins site.has_left ++
+    merge_bins site.has_above ++
+    bin SaoType 0 false ∷ bin SaoType 0 false ∷ []
 
 -- part_mode is coded in the smallest units alone: PART_2Nx2N
 abbrev pub part_bins : ℕ → List Bin
 part_bins zero = bin PartMode 0 true ∷ []
 part_bins (suc size) = []
 
--- The mode is the second of the most probable ones, which are 0, 1 and 26: the units at the left and above have mode 1,
--- or stand for it where they aren't available (8.4.2). prev_intra_luma_pred_flag, mpm_idx, and intra_chroma_pred_mode 4,
--- the luma mode.
+-- The mode is the second of the most probable ones, which are 0, 1 and 26: the units at the left
+-- and above have mode 1, or stand for it where they aren't available (8.4.2).
+-- prev_intra_luma_pred_flag, mpm_idx, and intra_chroma_pred_mode 4, the luma mode.
 abbrev pub prediction_bins : List Bin
 prediction_bins =
     bin PrevIntra 0 true ∷ bypass_bin true ∷ bypass_bin false ∷ bin ChromaMode 0 false ∷ []
 
--- transform_tree (7.3.8.8): cbf_cb and cbf_cr of the whole, and cbf_luma; of a unit of 64x64 that of its four blocks of
--- 32x32
+-- transform_tree (7.3.8.8): cbf_cb and cbf_cr of the whole, and cbf_luma; of a unit of 64x64 that
+-- of its four blocks of 32x32
 abbrev pub luma_bins : ℕ → List Bin
 luma_bins size =
     cond (nat_lt size 3) (bin CbfLuma 1 false ∷ [])
@@ -88,7 +92,8 @@ transform_bins size = bin CbfChroma 0 false ∷ bin CbfChroma 0 false ∷ luma_b
 abbrev pub unit_bins : ℕ → List Bin
 unit_bins size = part_bins size ++ prediction_bins ++ transform_bins size
 
--- split_cu_flag of a unit that isn't split. The smallest have none. No unit at the left or above is deeper.
+-- split_cu_flag of a unit that isn't split. The smallest have none. No unit at the left or above is
+-- deeper.
 abbrev pub split_bins : ℕ → List Bin
 split_bins zero = []
 split_bins (suc size) = bin Split 0 false ∷ []
@@ -104,7 +109,9 @@ tree_bins (suc size) (SplitTree a b c d) =
 -- coding_tree_unit (7.3.8.2), and end_of_slice_segment_flag
 abbrev pub bins : Site → CodingTreeUnit → List Bin
 bins site unit =
-    sao_bins site unit.sao ++ tree_bins 3 unit.tree ++ terminate_bin unit.end_of_slice_segment_flag ∷ []
+    sao_bins site unit.sao ++
+    tree_bins 3 unit.tree ++
+    terminate_bin unit.end_of_slice_segment_flag ∷ []
 
 -- slice_segment_data (7.3.8.1)
 abbrev pub slice_bins : List Site → List CodingTreeUnit → List Bin
@@ -118,13 +125,16 @@ abbrev pub is_empty : {A : Type 0} → List A → Bool
 is_empty [] = true
 is_empty (x ∷ xs) = false
 
-abbrev pub IsValid : Site → Tree → Type 0
-IsValid site tree = tree ≡ blank_tree 3 site.width site.height
+abbrev pub IsValidTree : Site → Tree → Type 0
+IsValidTree site tree = tree ≡ blank_tree 3 site.width site.height
 
--- there is one unit for each block, whose tree is valid there; the last one, and no other, ends the slice
+-- there is one unit for each block, whose tree is valid there; the last one, and no other, ends the
+-- slice
 abbrev pub AreValid : List Site → List CodingTreeUnit → Type 0
 AreValid [] [] = Unit {0}
 AreValid [] (unit ∷ units) = ⊥
 AreValid (site ∷ sites) [] = ⊥
 AreValid (site ∷ sites) (unit ∷ units) =
-    IsValid site unit.tree × (unit.end_of_slice_segment_flag ≡ is_empty sites) × AreValid sites units
+    IsValidTree site unit.tree ×
+    (unit.end_of_slice_segment_flag ≡ is_empty sites) ×
+    AreValid sites units

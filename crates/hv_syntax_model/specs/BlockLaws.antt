@@ -2,12 +2,12 @@
 use Rattle.std.specs.Prelude.{◌≢◌, ℕ, ◌≤◌, List, []}
 use Rattle.hv_stream_model.specs.Scripts.{Reads}
 use Rattle.hv_syntax_model.specs.Trees.{CodingTreeUnit}
-use Rattle.hv_syntax_model.specs.Bins.{Site, sites, IsValid, AreValid, bins, slice_bins}
+use Rattle.hv_syntax_model.specs.Bins.{Site, sites, IsValidTree, AreValid, bins, slice_bins}
 use Rattle.hv_syntax_model.specs.BlockSyntax.{coding_tree_unit, slice_segment_data}
 
 abbrev pub CodingTreeUnitsAreRead : Type 0
 CodingTreeUnitsAreRead =
-    (site : Site) (unit : CodingTreeUnit) → IsValid site unit.tree →
+    (site : Site) (unit : CodingTreeUnit) → IsValidTree site unit.tree →
     Reads (coding_tree_unit site) (bins site unit) unit
 
 abbrev pub SliceDataIsReadBack : Type 0

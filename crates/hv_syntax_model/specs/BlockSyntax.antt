@@ -1,5 +1,5 @@
--- The syntax of slice data and its coding tree units (7.3.8) as scripts of bins. So far of blank trees: at any other the
--- scripts fail.
+-- The syntax of slice data and its coding tree units (7.3.8) as scripts of bins. So far of blank
+-- trees: at any other the scripts fail.
 use Rattle.std.specs.Prelude.{ℕ, zero, suc, ◌-◌, Bool, true, false, cond, nat_lt, List, [], ◌∷◌}
 use Rattle.hv_types.specs.declared.bins.CtxTable.{CtxTable}
 use Rattle.hv_types.specs.declared.bins.CtxTable.TheVariants.{Split, PartMode, PrevIntra, ChromaMode, CbfLuma, CbfChroma, SaoMerge, SaoType}
@@ -45,7 +45,8 @@ prediction =
     expect Bypass false >>= λ _.
     element ChromaMode 0 false
 
--- transform_tree (7.3.8.8): cbf_cb, cbf_cr, and cbf_luma of one block, or of the four blocks of 64x64
+-- transform_tree (7.3.8.8): cbf_cb, cbf_cr, and cbf_luma of one block, or of the four blocks of
+-- 64x64
 abbrev pub luma_flags : ℕ → BlockScript (Unit {0})
 luma_flags size =
     cond (nat_lt size 3) (element CbfLuma 1 false)
@@ -61,10 +62,13 @@ transform_tree size =
 -- coding_unit (7.3.8.5)
 abbrev pub coding_unit : ℕ → BlockScript Tree
 coding_unit size =
-    part_mode size >>= λ _. prediction >>= λ _. transform_tree size >>= λ _. Done (Leaf (Intra dc_mode))
+    part_mode size >>= λ _.
+    prediction >>= λ _.
+    transform_tree size >>= λ _.
+    Done (Leaf (Intra dc_mode))
 
--- coding_quadtree (7.3.8.4): split_cu_flag where the node lies inside the picture and may be split, and then the coding
--- unit; four nodes where it crosses the picture's edge
+-- coding_quadtree (7.3.8.4): split_cu_flag where the node lies inside the picture and may be split,
+-- and then the coding unit; four nodes where it crosses the picture's edge
 abbrev pub coding_quadtree : ℕ → ℕ → ℕ → BlockScript Tree
 coding_quadtree zero width height = cond (is_outside width height) (Done Outside) (coding_unit zero)
 coding_quadtree (suc size) width height =
@@ -82,7 +86,8 @@ abbrev pub coding_tree_unit : Site → BlockScript CodingTreeUnit
 coding_tree_unit site =
     sao site >>= λ offsets.
     coding_quadtree 3 site.width site.height >>= λ tree.
-    Ask Terminate (λ last. Done (record { sao = offsets; tree = tree; end_of_slice_segment_flag = last }))
+    Ask Terminate (λ last.
+    Done (record { sao = offsets; tree = tree; end_of_slice_segment_flag = last }))
 
 -- slice_segment_data (7.3.8.1) of these blocks: it ends behind the last one, and nowhere else
 abbrev pub slice_segment_data : List Site → BlockScript (List CodingTreeUnit)

@@ -1,6 +1,6 @@
-//! Coding tree units as values, their bins, and the syntax of slice data (7.3.8) as definitions. They
-//! stand in `specs/`; the functions here are empty, and each carries a law of the definitions as its
-//! contract.
+//! Coding tree units as values, their bins, and the syntax of slice data (7.3.8) as definitions.
+//! They stand in `specs/`; the functions here are empty, and each carries a law of the definitions
+//! as its contract.
 #![tactic(auto)]
 
 mod block_laws;

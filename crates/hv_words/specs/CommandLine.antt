@@ -44,7 +44,8 @@ value_then None values = None
 value_then (Some value) None = None
 value_then (Some value) (Some values) = Some (value ∷ values)
 
--- the values of options that stand in this order, each followed by its value; none where the words are others
+-- the values of options that stand in this order, each followed by its value; none where the words
+-- are others
 abbrev pub values_of : List (List ℕ) → List (List ℕ) → Option (List ℕ)
 values_of [] [] = Some []
 values_of [] (word ∷ words) = None
@@ -55,7 +56,8 @@ values_of (option ∷ options) (word ∷ value ∷ words) =
 
 abbrev pub options : List (List ℕ)
 options =
-    codes "--width" ∷ codes "--height" ∷ codes "--qp" ∷ codes "--levels" ∷ codes "--group" ∷ codes "--effort" ∷ []
+    codes "--width" ∷ codes "--height" ∷ codes "--qp" ∷ codes "--levels" ∷ codes "--group" ∷
+    codes "--effort" ∷ []
 
 -- a value above 255 stands as 255
 abbrev pub byte_value : ℕ → ℕ
@@ -80,7 +82,8 @@ abbrev pub settings_of_values : Option (List ℕ) → Option Settings
 settings_of_values None = None
 settings_of_values (Some values) = settings_from values
 
-abbrev pub settings_of_six : Option ℕ → Option ℕ → Option ℕ → Option ℕ → Option ℕ → Option ℕ → Option Settings
+abbrev pub settings_of_six :
+    Option ℕ → Option ℕ → Option ℕ → Option ℕ → Option ℕ → Option ℕ → Option Settings
 settings_of_six width height qp levels group effort = settings_of_values
     (value_then width (value_then height (value_then qp (value_then levels (value_then group
     (value_then effort (Some [])))))))
@@ -111,7 +114,8 @@ abbrev pub refusal_of_settings : Option Settings → Option WordsError
 refusal_of_settings None = Some Parse
 refusal_of_settings (Some settings) = refusal_by (fault_of settings) settings
 
--- why the words are refused: they are no such command line, or the settings have a fault, or they aren't built yet
+-- why the words are refused: they are no such command line, or the settings have a fault, or they
+-- aren't built yet
 abbrev pub refusal : List (List ℕ) → Option WordsError
 refusal words = refusal_of_settings (settings_of words)
 

@@ -16,9 +16,9 @@ pub enum WordsError {
     NotBuilt,
 }
 
-/// The settings that the words ask for, tested. The words stand in one order: `--width`, `--height`,
-/// `--qp`, `--levels`, `--group` and `--effort`, each before its value, which is a number of one to ten
-/// digits below 2^32. A value of the last four above 255 stands as 255.
+/// The settings that the words ask for, tested. The words stand in one order: `--width`,
+/// `--height`, `--qp`, `--levels`, `--group` and `--effort`, each before its value, which is a
+/// number of one to ten digits below 2^32. A value of the last four above 255 stands as 255.
 pub fn config_of_words(words: &Words) -> Result<Config, WordsError>
     ensures ok { IfOk result (λ config. AsksFor words.now config) }
     ensures err { IfErr result (λ error. refusal words.now ≡ Some error) }

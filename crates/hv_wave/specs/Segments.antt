@@ -1,5 +1,5 @@
 -- The segments of a picture: how its rows of coding tree blocks are cut, and when a segment is ready.
-use Rattle.std.specs.Prelude.{◌≡◌, ℕ, ◌+◌, ◌-◌, ◌*◌, ◌/◌, ◌%◌, ◌<◌, min, List, length, slice_index_or, slice_set, replicate}
+use Rattle.std.specs.Prelude.{◌≡◌, ◌≢◌, ℕ, ◌+◌, ◌-◌, ◌*◌, ◌/◌, ◌%◌, ◌<◌, ◌≤◌, min, List, length, slice_index_or, slice_set, replicate}
 
 -- how far a segment is
 pub data Stage : Type 0 where
@@ -63,6 +63,14 @@ pub record IsFirstReady (w : Wave) (s : ℕ) : Type 0 where
 
 abbrev pub IsComplete : Wave → Type 0
 IsComplete w = (s : ℕ) → s < length w.stages → stage w s ≡ Done
+
+-- Where no segment is taken and none is ready, all are done. So whatever the order in which segments are done, the wave
+-- is complete in the end.
+abbrev pub NoneIsTaken : Wave → Type 0
+NoneIsTaken w = (s : ℕ) → s < length w.stages → stage w s ≢ Taken
+
+abbrev pub WavesGoOn : Type 0
+WavesGoOn = (w : Wave) → 1 ≤ w.columns → 1 ≤ w.segment → NoneIsTaken w → NoneIsReady w → IsComplete w
 
 -- all segments wait; this one is so far
 abbrev pub opening : ℕ → ℕ → ℕ → Wave

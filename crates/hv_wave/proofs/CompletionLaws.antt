@@ -1,4 +1,4 @@
--- A wave never sticks: the first segment that isn't done is taken or ready, since a segment waits for earlier ones alone.
+-- A wave never sticks: the first segment that isn't done is taken or ready, since it waits for earlier ones alone.
 use Rattle.std.proofs.Common.{◌≡◌, ℕ, zero, suc, ◌+◌, ◌-◌, ◌*◌, ◌/◌, ◌%◌, ◌<◌, ◌≤◌, ◌∙◌, ap, refl, min, length, arith, inl, inr}
 use Rattle.std.specs.Prelude.{◌⊎◌}
 use Rattle.std.proofs.lemmas.Bool.{cases_lt}

@@ -1,9 +1,9 @@
 -- The counts of the pictures that name one: place by place in coding order, for `all_live` and `finished`. And when all
 -- references of a picture are filtered, for `ready`.
-use Rattle.std.proofs.Common.{◌≡◌, ℕ, zero, suc, ◌+◌, ◌<◌, ◌≤◌, ◌∙◌, sym, ap, subst, refl, Bool, true, false, Option, None, Some, List, [], ◌∷◌, length, take, drop, replicate, slice_index_or, arith, inl, inr}
+use Rattle.std.proofs.Common.{◌≡◌, ℕ, zero, suc, ◌+◌, ◌<◌, ◌≤◌, ◌∙◌, sym, ap, refl, Bool, true, false, Option, List, [], ◌∷◌, length, take, drop, replicate, slice_index_or, arith}
 use Rattle.std.specs.Prelude.{All, count_by, slice_get, slice_index}
 use Rattle.std.proofs.lemmas.Bool.{both_ways}
-use Rattle.std.proofs.lemmas.List.{get_or_default, get_or-replicate, length-drop, length-replicate, length-take, take_all}
+use Rattle.std.proofs.lemmas.List.{get_or-replicate, length-drop, length-replicate, length-take, take_all}
 use Rattle.std.proofs.lemmas.List.Elements.{All-from_get_or}
 use Rattle.std.proofs.lemmas.List.Sums.{count_by-le-length, sum_by_more, sum_by-drop_more}
 use Rattle.hv_group_model.specs.Structure.{Coded, coded, coding, picture_at}

@@ -1,10 +1,10 @@
 -- What the counts need of each structure, found by computing all of them: a picture refers to at most two others of its
 -- group, which are different (8.3.4).
-use Rattle.std.proofs.Common.{◌≡◌, ℕ, suc, ◌+◌, ◌<◌, ◌≤◌, ◌∙◌, sym, ap, ap₂, subst, refl, Bool, true, false, not, cond, nat_eq, nat_lt, ◌&&◌, ◌||◌, Option, None, Some, List, [], ◌∷◌, length, slice_index_or, arith, inl, inr}
+use Rattle.std.proofs.Common.{◌≡◌, ℕ, ◌+◌, ◌<◌, ◌≤◌, ◌∙◌, sym, ap, ap₂, subst, refl, Bool, true, false, not, nat_eq, nat_lt, ◌&&◌, ◌||◌, Option, None, Some, List, [], ◌∷◌, length, slice_index_or, arith, inl, inr}
 use Rattle.std.specs.Prelude.{◌⊎◌, slice_get}
 use Rattle.std.specs.List.{list_all, list_any}
-use Rattle.std.proofs.lemmas.Bool.{and_parts, cases_eq, cases_lt, eq-eqb, ne_eqb, eqb-false, eqb-true, ltb-true, not-true}
-use Rattle.hv_group_model.specs.Structure.{Coded, coded, coding, place_in, picture_at, coded_of, rising}
+use Rattle.std.proofs.lemmas.Bool.{and_parts, cases_lt, eq-eqb, ne_eqb, eqb-false, eqb-true, ltb-true, not-true}
+use Rattle.hv_group_model.specs.Structure.{Coded, coded, coding, place_in, picture_at, rising}
 use Rattle.hv_decision.specs.Orders.{IsOrder}
 use Rattle.hv_decision.specs.Structure.{Structure, IsStructure}
 use Rattle.hv_lemmas.proofs.ComputedLemmas.{holds_at}

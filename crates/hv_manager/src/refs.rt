@@ -89,8 +89,9 @@ impl Refs {
         requires { k < self.now.count }
         ensures { IsTrue result ↔ IsReady self.now k }
     {
-        is_filtered_or_none(&self.filtered, self.structure.first(k))
-            && is_filtered_or_none(&self.filtered, self.structure.second(k))
+        let first = is_filtered_or_none(&self.filtered, self.structure.first(k));
+        let second = is_filtered_or_none(&self.filtered, self.structure.second(k));
+        first && second
     }
 
     /// A picture that is filtered is written, the next one in coding order. It is in constant time

@@ -6,7 +6,7 @@ use Rattle.hv_types.specs.declared.bins.SliceKind.TheVariants.{I, P}
 use Rattle.hv_types.specs.declared.bins.CtxTable.{CtxTable}
 use Rattle.hv_types.specs.declared.bins.CtxTable.TheVariants.{Split, PartMode, PrevIntra, ChromaMode, CbfLuma, CbfChroma, SaoMerge, SaoType}
 use Rattle.hv_types.specs.Bins.{Bin, terminate_bin}
-use Rattle.hv_entropy_model.specs.Contexts.{IsValid}
+use Rattle.hv_tables.specs.ContextTables.{IsValid}
 use Rattle.hv_entropy_model.specs.CodeWord.{AllAskable}
 use Rattle.hv_syntax_model.specs.Trees.{Offsets, Off, Tree, Leaf, Split as SplitTree, Outside, CodingTreeUnit}
 use Rattle.hv_syntax_model.specs.Bins.{context, bin, Site, merge_bins, sao_bins, part_bins, prediction_bins, luma_bins, transform_bins, unit_bins, split_bins, tree_bins, bins, slice_bins}

@@ -3,7 +3,7 @@ use Rattle.std.proofs.Common.{◌≡◌, refl, ℕ, Bool, true, false, not, List
 use Rattle.std.specs.Prelude.{filter, ◌*◌}
 use Rattle.hv_sample_model.specs.IntraPrediction.{substituted, smoothed, is_smoothed, filtered, predicted, by_mode}
 use Rattle.hv_sample_model.specs.Blocks.{total_of}
-use Rattle.hv_types.specs.Samples.{tabulate}
+use Rattle.hv_lemmas.specs.Lists.{tabulate}
 
 -- ---- substitution
 

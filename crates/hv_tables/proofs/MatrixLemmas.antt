@@ -1,6 +1,6 @@
 -- The rows of the transform matrices that the standard prints (8.6.4.2), computed.
 use Rattle.std.proofs.Common.{refl}
-use Rattle.hv_types.specs.Samples.{tabulate}
+use Rattle.hv_lemmas.specs.Lists.{tabulate}
 use Rattle.hv_tables.specs.MatrixLaws.{SecondRowOf32, SecondRowOf16, SecondRowOf8, SecondRowOf4, ThirdRowOf4}
 
 pub second_of_32 : SecondRowOf32

@@ -2,3 +2,4 @@ pub mod SegmentLaws
 pub mod StageLaws
 pub mod ReadyLaws
 pub mod StepLaws
+pub mod CompletionLaws

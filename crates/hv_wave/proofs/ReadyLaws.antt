@@ -1,11 +1,11 @@
 -- A segment is ready exactly where it is the next one of a row that goes on: for `next`.
-use Rattle.std.proofs.Common.{◌≡◌, ℕ, zero, suc, ◌+◌, ◌-◌, ◌*◌, ◌/◌, ◌%◌, ◌<◌, ◌≤◌, ◌∙◌, sym, ap, ap₂, subst, refl, Bool, true, false, not, nat_lt, nat_eq, ◌&&◌, ◌||◌, min, List, length, slice_index_or, arith, inl, inr}
-use Rattle.std.specs.Prelude.{◌⊎◌, All}
+use Rattle.std.proofs.Common.{◌≡◌, ℕ, zero, suc, ◌+◌, ◌-◌, ◌*◌, ◌/◌, ◌%◌, ◌<◌, ◌≤◌, ◌∙◌, sym, ap, ap₂, subst, refl, true, false, not, nat_lt, nat_eq, ◌&&◌, ◌||◌, min, List, length, arith, inl, inr}
+use Rattle.std.specs.Prelude.{◌⊎◌}
 use Rattle.std.proofs.lemmas.Bool.{and_parts, and_from, or_cases, or_left, or_right, cases_lt, cases_order, ltb-true, lt-ltb, eqb-true, eq-eqb, not-true, both_ways}
 use Rattle.std.proofs.lemmas.Nat.{div-mul-add, mod-mul-add, div_below, mod_below, div-add-mod', mul-le}
 use Rattle.hv_wave.specs.declared.rows.Row.{Row}
-use Rattle.hv_wave.specs.Segments.{Stage, Waiting, Taken, Done, Wave, per_row, stage, above, covering, column_behind, IsReady, IsFirstReady, NoneIsReady}
-use Rattle.hv_wave.specs.Rows.{row_at, no_row, stage_in, as_seen, goes_on, row_goes_on, done_above, IsRow, IsWhole, IsFirstToGoOn, NoneGoesOnBefore}
+use Rattle.hv_wave.specs.Segments.{Waiting, Done, per_row, stage, above, IsReady, IsFirstReady, NoneIsReady}
+use Rattle.hv_wave.specs.Rows.{row_at, no_row, as_seen, goes_on, row_goes_on, done_above, IsWhole, IsFirstToGoOn, NoneGoesOnBefore}
 use Rattle.hv_wave.proofs.SegmentLaws.{covering_behind}
 use Rattle.hv_wave.proofs.StageLaws.{stage_in-done, stage_in-free, done_from_stage, waiting_from_stage, stage_at, stage_at_place, length-stages_of, place_there}
 

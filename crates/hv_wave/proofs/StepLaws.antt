@@ -1,12 +1,12 @@
 -- What a write into a row does to the wave: for `next`, `done` and `give_back`. And when all is done: for `complete`.
-use Rattle.std.proofs.Common.{◌≡◌, ℕ, zero, suc, ◌+◌, ◌-◌, ◌*◌, ◌/◌, ◌%◌, ◌<◌, ◌≤◌, ◌^◌, ◌∙◌, sym, ap, ap₂, subst, refl, Bool, true, false, nat_eq, ◌&&◌, List, length, map, replicate, slice_index_or, slice_set, arith, inl, inr}
+use Rattle.std.proofs.Common.{◌≡◌, ℕ, ◌+◌, ◌-◌, ◌*◌, ◌/◌, ◌%◌, ◌<◌, ◌≤◌, ◌^◌, ◌∙◌, sym, ap, subst, refl, Bool, true, false, nat_eq, ◌&&◌, List, length, map, replicate, slice_index_or, slice_set, arith, inl, inr}
 use Rattle.std.specs.Prelude.{◌⊎◌, All}
 use Rattle.std.specs.List.{range_with_len}
 use Rattle.std.proofs.lemmas.Bool.{and_from, and_parts, both_ways, cases_lt, eq-eqb, eqb-true}
 use Rattle.std.proofs.lemmas.List.{get_or_past, get_or_read, get_or-replicate, length-replicate, length-set}
 use Rattle.std.proofs.lemmas.List.FromFn.{fill_by_all}
 use Rattle.std.proofs.lemmas.List.Elements.{All-set, All-from_get_or, All-replicate}
-use Rattle.std.proofs.lemmas.Nat.{div-mul-add, mod-mul-add, div_below, mod_below, div-add-mod'}
+use Rattle.std.proofs.lemmas.Nat.{div_below, mod_below, div-add-mod'}
 use Rattle.hv_wave.specs.declared.rows.Row.{Row}
 use Rattle.hv_wave.specs.Segments.{Stage, Waiting, Taken, Done, Wave, per_row, stage, opening, with_stage, IsComplete, NoneIsReady}
 use Rattle.hv_wave.specs.Rows.{row_at, no_row, stage_in, stage_of, as_seen, IsRow, IsWhole, IsFirstToGoOn, NoneGoesOnBefore, done_above}

@@ -1,4 +1,4 @@
--- How the code keeps a wave: of each row how many segments are done, and whether the next one is taken.
+-- How the code keeps a wave: of each row how many segments are done, and whether the next is taken.
 use Rattle.std.specs.Prelude.{◌≡◌, ℕ, zero, suc, ◌+◌, ◌*◌, ◌/◌, ◌%◌, ◌<◌, ◌≤◌, ◌^◌, Bool, true, false, not, cond, ◌&&◌, ◌||◌, nat_eq, nat_lt, List, All, length, map, slice_index_or}
 use Rattle.std.specs.List.{range_with_len}
 use Rattle.hv_wave.specs.declared.rows.Row.{Row}

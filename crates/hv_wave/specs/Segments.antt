@@ -1,5 +1,5 @@
--- The segments of a picture: how its rows of coding tree blocks are cut, and when a segment is ready.
-use Rattle.std.specs.Prelude.{◌≡◌, ℕ, ◌+◌, ◌-◌, ◌*◌, ◌/◌, ◌%◌, ◌<◌, min, List, length, slice_index_or, slice_set, replicate}
+-- The segments of a picture: how its rows of coding tree blocks are cut, and when one is ready.
+use Rattle.std.specs.Prelude.{◌≡◌, ◌≢◌, ℕ, ◌+◌, ◌-◌, ◌*◌, ◌/◌, ◌%◌, ◌<◌, ◌≤◌, min, List, length, slice_index_or, slice_set, replicate}
 
 -- how far a segment is
 pub data Stage : Type 0 where
@@ -7,13 +7,14 @@ pub data Stage : Type 0 where
   Taken : Stage
   Done : Stage
 
--- the columns of the picture, the greatest length of a segment, and how far each segment is, by rows
+-- the columns of the picture, the greatest length of a segment, and how far each one is, by rows
 pub record Wave : Type 0 where
   pub columns : ℕ
   pub segment : ℕ
   pub stages : List Stage
 
--- A row is cut from the left. So this segment of the row covers a column, and so many there are.
+-- A row is cut from the left into runs of so many columns, of which the last may be shorter. This
+-- run covers a column, and so many runs cover all columns.
 abbrev pub covering : ℕ → ℕ → ℕ
 covering segment column = column / segment
 
@@ -42,8 +43,8 @@ abbrev pub above : Wave → ℕ → ℕ
 above w s =
     (row_of w s - 1) * per_row w.columns w.segment + covering w.segment (column_behind w s)
 
--- A segment is ready where it waits, and the one to its left and the one above right of it are done. The first segment
--- of a row has none to its left, and the first row has none above.
+-- A segment is ready where it waits, and the one to its left and the one above right of it are
+-- done. The first segment of a row has none to its left, and the first row has none above.
 pub record IsReady (w : Wave) (s : ℕ) : Type 0 where
   pub there : s < length w.stages
   pub waiting : stage w s ≡ Waiting
@@ -63,6 +64,15 @@ pub record IsFirstReady (w : Wave) (s : ℕ) : Type 0 where
 
 abbrev pub IsComplete : Wave → Type 0
 IsComplete w = (s : ℕ) → s < length w.stages → stage w s ≡ Done
+
+-- Where no segment is taken and none is ready, all are done. So whatever the order in which
+-- segments are done, the wave is complete in the end.
+abbrev pub NoneIsTaken : Wave → Type 0
+NoneIsTaken w = (s : ℕ) → s < length w.stages → stage w s ≢ Taken
+
+abbrev pub WavesGoOn : Type 0
+WavesGoOn =
+    (w : Wave) → 1 ≤ w.columns → 1 ≤ w.segment → NoneIsTaken w → NoneIsReady w → IsComplete w
 
 -- all segments wait; this one is so far
 abbrev pub opening : ℕ → ℕ → ℕ → Wave

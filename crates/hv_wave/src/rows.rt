@@ -49,7 +49,8 @@ pub(crate) fn first_to_go_on(rows: &[Row], per_row: u32) -> Option<u32>
     None
 }
 
-/// Whether all segments of these rows, of `per_row` segments each, are done. It walks down the rows.
+/// Whether all segments of these rows, of `per_row` segments each, are done. It walks down the
+/// rows.
 pub(crate) fn all_done(rows: &[Row], per_row: u32) -> bool
     ensures { IsTrue result ↔ All (λ row. row.done ≡ per_row) rows.now }
 {

@@ -79,8 +79,8 @@ fn rounds(alloc: Global, columns: u32, rows: u32, segment: u8) -> Result<u32, No
     Ok(1000)
 }
 
-/// A row of n segments is done in n rounds, and each row below it is two behind, or one behind where
-/// a row has one segment.
+/// A row of n segments is done in n rounds, and each row below it is two behind, or one behind
+/// where a row has one segment.
 #[test]
 fn rows_run_two_behind(rt: HostRuntime) -> Result<(), Fail> {
     assert_eq!(rt; rounds(rt.alloc(), 1, 1, 1)?, 1);
@@ -95,6 +95,7 @@ fn rows_run_two_behind(rt: HostRuntime) -> Result<(), Fail> {
     assert_eq!(rt; rounds(rt.alloc(), 64, 34, 1)?, 64 + 2 * 33);
     assert_eq!(rt; rounds(rt.alloc(), 64, 34, 4)?, 16 + 2 * 33);
     assert_eq!(rt; rounds(rt.alloc(), 64, 34, 64)?, 34);
+    assert_eq!(rt; rounds(rt.alloc(), 5, 2, 4)?, 2 + 2);
     Ok(())
 }
 
@@ -131,8 +132,8 @@ fn each_is_given_back(rt: HostRuntime) -> Result<(), Fail> {
 }
 
 /// Finishes the segments in the order of these choices: each is the place, among those that are
-/// taken, of the one that is finished next, and 0 where no choice is left. Gives how many were taken
-/// at each step, or nothing where the wave isn't complete in the end.
+/// taken, of the one that is finished next, and 0 where no choice is left. Gives how many were
+/// taken at each step, or nothing where the wave isn't complete in the end.
 fn widths(
     alloc: Global,
     columns: u32,

@@ -7,11 +7,11 @@ use std::alloc::Global;
 use std::marker::Model;
 
 /// The segments of a picture, each of which is waiting, taken or done. A segment is a run of coding
-/// tree blocks in one row, cut from the left; segments are numbered by rows from 0. A waiting one is
-/// ready where the one to its left is done, and in the row above the one that covers the column
-/// behind its last column, or the last column of the picture. So whatever a block reads of its
-/// neighbours left, above left, above and above right is there (6.4.1). Contracts see the columns of
-/// the picture, the greatest length of a segment, and how far each segment is.
+/// tree blocks in one row, cut from the left; segments are numbered by rows from 0. A waiting one
+/// is ready where the one to its left is done, and in the row above the one that covers the column
+/// behind its last column, or the last column of the picture. So what a block reads of its
+/// neighbours left, above left, above and above right is there (6.4.1). Contracts see the columns
+/// of the picture, the greatest length of a segment, and how far each segment is.
 #[derive(Drop)]
 pub struct Wave {
     columns: u32,

@@ -1,4 +1,4 @@
-use Rattle.std.proofs.Common.{◌+◌, arith}
+use Rattle.std.proofs.Common.{arith}
 use Rattle.hv_manager.proofs.CountLaws.{counted_all, counted_more, counted_small}
 use Rattle.hv_manager.proofs.live.all_live.Goals as goal
 

@@ -1,4 +1,4 @@
-use Rattle.std.proofs.Common.{◌≡◌, ◌<◌, ap, subst, refl, Some, arith}
+use Rattle.std.proofs.Common.{◌≡◌, ◌<◌, ap, subst, refl, arith}
 use Rattle.std.specs.Prelude.{slice_get}
 use Rattle.hv_manager.specs.Progress.{coded_at, one_at}
 use Rattle.hv_manager.proofs.StructureLaws.{first_below, second_below, named_sum, one_at-same}

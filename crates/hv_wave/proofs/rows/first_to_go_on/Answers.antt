@@ -1,4 +1,4 @@
-use Rattle.std.proofs.Common.{◌∙◌, ◌+◌, sym, ap, add-one}
+use Rattle.std.proofs.Common.{◌∙◌, sym, ap, add-one}
 use borrow.Author.Count.{below_more}
 use Rattle.hv_wave.specs.Rows.{goes_on, done_above, row_at}
 use Rattle.hv_wave.proofs.rows.first_to_go_on.Goals as goal

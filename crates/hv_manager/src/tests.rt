@@ -1,5 +1,6 @@
 //! What no clause says: that there is room where there is memory, and worked cases.
 ghost use Rattle.std.specs.Prelude.{◌≡◌, ◌≤◌, IfOk};
+ghost use Rattle.hv_types.specs.Configuration.{most_levels};
 ghost use Rattle.hv_manager.specs.Progress.{opening};
 
 use crate::Refs;
@@ -12,7 +13,7 @@ use std::test::Fail;
 fn refs_of(alloc: Global, count: u8, levels: u8) -> Result<Refs, NoMemory>
     requires some { 1 ≤ count }
     requires most { count ≤ 64 }
-    requires few { levels ≤ 3 }
+    requires few { levels ≤ most_levels }
     ensures { IfOk result (λ r. r ≡ opening count levels) }
 {
     let structure = Structure::of(alloc, count, levels)?;

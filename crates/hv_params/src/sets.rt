@@ -1,6 +1,7 @@
 //! The parameter sets, field by field, and their units.
 
 ghost use Rattle.std.specs.Prelude.{◌≡◌, ◌≤◌, ◌<◌, false, IfOk};
+ghost use Rattle.hv_types.specs.Configuration.{most_levels};
 ghost use Rattle.hv_bits.specs.Writing.{Appends};
 ghost use Rattle.hv_stream_model.specs.Bits.{bytes_of};
 ghost use Rattle.hv_stream_model.specs.Fields.{bits_of_fields, aligned};
@@ -72,7 +73,7 @@ fn unit(alloc: Global, nal_unit_type: u8, mut writer: BitWriter) -> Result<Vec<u
 
 /// video_parameter_set_rbsp (7.3.2.1).
 fn put_vps(writer: &mut BitWriter, levels: u8)
-    requires { levels ≤ 3 }
+    requires { levels ≤ most_levels }
     ensures { Appends writer.old writer.new (bits_of_fields (vps levels)) }
 {
     tables_join();

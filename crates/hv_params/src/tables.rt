@@ -3,6 +3,7 @@
 
 ghost use Rattle.std.specs.Prelude.{◌≡◌, ◌≤◌, true, map};
 ghost use Rattle.std.specs.List.{list_all};
+ghost use Rattle.hv_types.specs.Configuration.{most_levels};
 ghost use Rattle.hv_bits.specs.FieldTables.{field_of, is_codable};
 ghost use Rattle.hv_stream_model.specs.Headers.{ordering as ordering_of};
 
@@ -48,7 +49,7 @@ pub const PROFILE_TIER_LEVEL: [Field; 11] = [
 /// What a decoder has to hold of each sub-layer, by the number of temporal levels.
 #[rattlefmt::skip]
 pub fn ordering(levels: u8) -> [Field; 4]
-    requires { levels ≤ 3 }
+    requires { levels ≤ most_levels }
     ensures value { map field_of result ≡ ordering_of levels }
     ensures codable { list_all is_codable result ≡ true }
 {

@@ -5,20 +5,17 @@ use Rattle.std.specs.Prelude.{slice_get, slice_set, Some, pos, neg_ℤ}
 use Rattle.std.specs.Int.RustNames.{unsigned_abs}
 use Rattle.std.proofs.lemmas.List.{take_at, drop_at, take-take, drop-take, take_more, take_more_set, length-set, length-map, length-append}
 use Rattle.std.proofs.lemmas.Option.{get_or_from_slice_get}
+use Rattle.hv_types.specs.Configuration.{most_levels}
 use Rattle.hv_types.specs.declared.bins.SliceKind.TheVariants.{P}
 use Rattle.hv_group_model.specs.Structure.{Kept, ReferenceSet, reference_set, set_size, coded_of, qp_at}
 use Rattle.hv_stream_model.specs.Headers.{SliceHeader, slice, slice_header_of}
 use Rattle.hv_stream_model.specs.HeaderLaws.{IsAllowedSlice, SlicesOfGroupsAreAllowed, header_of}
 use Rattle.hv_decision.specs.declared.row.SetEntry.{SetEntry}
 use Rattle.hv_decision.specs.Sets.{entry_before, entry_after, set_entries}
+use Rattle.hv_decision.proofs.SetLemmas.{length-set_entries}
 use Rattle.hv_slice.specs.Entries.{kept_of, side_of, header_with}
 
 -- ---- gathering
-
-pub length-set_entries : (set : ReferenceSet) → length (set_entries set) ≡ set_size set
-length-set_entries set =
-    length-append (map entry_before set.before) (map entry_after set.after) ∙
-    ap₂ (λ n m. n + m) (length-map set.before entry_before) (length-map set.after entry_after)
 
 -- one entry more
 pub one_entry : (entries set : List SetEntry) (i at : ℕ) (entry : SetEntry) → at ≡ i →
@@ -102,7 +99,7 @@ same_header count levels base picture qp before all entries ee ea eb eq =
     }
 
 -- a header that is allowed at some number of levels is allowed at three
-loosen : (levels : ℕ) (header : SliceHeader) → levels ≤ 3 → IsAllowedSlice levels header →
+loosen : (levels : ℕ) (header : SliceHeader) → levels ≤ most_levels → IsAllowedSlice levels header →
     IsAllowedSlice 3 header
 loosen levels header low h = record {
   count_least = h.count_least;
@@ -117,7 +114,7 @@ loosen levels header low h = record {
 }
 
 pub other_header : SlicesOfGroupsAreAllowed → (count levels base picture : ℕ) → picture ≢ 0 →
-    count ≤ 64 → levels ≤ 3 → picture < count →
+    count ≤ 64 → levels ≤ most_levels → picture < count →
     (slice_header_of count levels base picture ≡ slice (header_of count levels base picture)) ×
     IsAllowedSlice 3 (header_of count levels base picture)
 other_header law count levels base zero some few low below = absurd (some refl)

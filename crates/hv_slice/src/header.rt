@@ -2,6 +2,7 @@
 
 ghost use Rattle.std.specs.Prelude.{◌≡◌, ◌≤◌, ◌<◌, ◌%◌, true, false, map, ◌∷◌, [], ◌++◌, length};
 ghost use Rattle.std.specs.List.{list_all};
+ghost use Rattle.hv_types.specs.Configuration.{most_levels};
 ghost use Rattle.hv_types.specs.declared.bins.SliceKind.TheVariants.{P};
 ghost use Rattle.hv_bits.specs.Writing.{Appends};
 ghost use Rattle.hv_bits.specs.FieldTables.{field_of, is_codable};
@@ -45,7 +46,7 @@ pub fn write_slice_header(
 /// A structure is of at most 64 pictures, with at most 3 temporal levels.
 fn check_ranges(structure: &Structure)
     ensures count { structure.now.count ≤ 64 }
-    ensures levels { structure.now.levels ≤ 3 }
+    ensures levels { structure.now.levels ≤ most_levels }
 {
     structure.count();
     structure.levels();
@@ -57,7 +58,7 @@ fn put_slice(writer: &mut BitWriter, structure: &Structure, picture: u8, base: u
     requires picture { picture < structure.now.count }
     requires base { base ≤ 51 }
     requires count { structure.now.count ≤ 64 }
-    requires levels { structure.now.levels ≤ 3 }
+    requires levels { structure.now.levels ≤ most_levels }
     ensures { Appends writer.old writer.new
         (bits_of_fields (slice_header_of structure.now.count structure.now.levels base picture)) }
 {

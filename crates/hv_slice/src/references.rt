@@ -1,6 +1,7 @@
 //! The reference set of a slice header (7.3.7), and how many of its pictures are used.
 
 ghost use Rattle.std.specs.Prelude.{◌≡◌, ◌≤◌, ◌<◌, length, take};
+ghost use Rattle.hv_types.specs.Configuration.{most_levels};
 ghost use Rattle.hv_bits.specs.Writing.{Appends};
 ghost use Rattle.hv_stream_model.specs.Fields.{bits_of_fields};
 ghost use Rattle.hv_stream_model.specs.Headers.{side_fields, set_fields, used_in};
@@ -17,7 +18,7 @@ use hv_decision::{SetEntry, Structure};
 /// output order and then those after it, the nearest first.
 pub fn entries(structure: &Structure, picture: u8) -> [SetEntry; 4]
     requires picture { picture < structure.now.count }
-    requires levels { structure.now.levels ≤ 3 }
+    requires levels { structure.now.levels ≤ most_levels }
     ensures { let set = reference_set structure.now.count structure.now.levels picture in
         take (set_size set) result ≡ set_entries set }
 {

@@ -8,6 +8,7 @@ use Rattle.std.proofs.lemmas.Int.{ints}
 use Rattle.std.specs.List.{list_all}
 use Rattle.std.proofs.lemmas.Bool.{ltb-true, and_parts}
 use Rattle.std.specs.Int.{is_negative}
+use Rattle.hv_types.specs.Configuration.{most_levels}
 use Rattle.hv_stream_model.specs.Scripts.{Done, ◌>>=◌, Reads, nothing, one}
 use Rattle.hv_stream_model.specs.Fields.{Descriptor, U, Ue, Field, most_zeros, Codes, AllCodable, u, ue, se, code_num, signed_of, HeaderScript}
 use Rattle.hv_stream_model.specs.Headers.{ordering, vps_start, vps_end, sps_start, sps_depths, sps_end, Size, is_cropped, window, size_fields, pps, idr_start, qp_delta, fixed, free, read_ordering, is_side, read_offsets, read_window, read_size, read_sps, qp_from}
@@ -33,7 +34,7 @@ free_then : {A : Type 0} {rest : List Field} {a : A} (descriptor : Descriptor) (
     Reads (free descriptor >>= script) (record { question = descriptor; value = value } ∷ rest) a
 free_then descriptor value script r = one r
 
-reads_ordering : (levels : ℕ) → levels ≤ 3 → Reads read_ordering (ordering levels) levels
+reads_ordering : (levels : ℕ) → levels ≤ most_levels → Reads read_ordering (ordering levels) levels
 reads_ordering levels h =
     let same : nat_eq (levels + 1) (levels + 1) ≡ true = eq-eqb (levels + 1) (levels + 1) refl in
     let few : nat_le levels 3 ≡ true = le-leb levels 3 h in
@@ -214,7 +215,7 @@ pub AllCodable-append : (a b : List Field) → AllCodable a → AllCodable b →
 AllCodable-append [] b p q = q
 AllCodable-append (field ∷ a) b p q = (p.0, AllCodable-append a b p.1 q)
 
-codable_ordering : (levels : ℕ) → levels ≤ 3 → AllCodable (ordering levels)
+codable_ordering : (levels : ℕ) → levels ≤ most_levels → AllCodable (ordering levels)
 codable_ordering levels h = (omega arith, (omega arith, (omega arith, (omega arith, tt))))
 
 codable_vps_start : AllCodable vps_start

@@ -6,6 +6,8 @@ use Rattle.std.specs.List.{list_all}
 use Rattle.std.specs.Int.{abs_diff}
 use Rattle.std.proofs.lemmas.Bool.{and_parts, cases_lt, ltb-true}
 use Rattle.std.proofs.lemmas.Bool.Decides.{nat_tests}
+use Rattle.hv_types.specs.Configuration.{most_levels}
+use Rattle.hv_group_model.proofs.NumberListLemmas.{below_all}
 use Rattle.hv_group_model.specs.Structure.{Coded, coding, place_in, falling, rising, Kept, kept, is_kept, kept_among, references_at, ReferenceSet, reference_set, set_in, set_size}
 use Rattle.hv_stream_model.specs.Headers.{most_count, used_count}
 use Rattle.hv_stream_model.specs.HeaderLaws.{Rise, AreWithin, SlicesOfGroupsAreAllowed}
@@ -90,16 +92,6 @@ small_below levels order (suc (suc n)) m all k some below =
           ap (is_small levels) (set_in-by order (suc n) m) ∙ parts.0
     ]
 
--- what a test found of all numbers below n
-below_all : (p : ℕ → Bool) (n i : ℕ) → list_all p (falling n) ≡ true → i < n → p i ≡ true
-below_all p zero i all below = absurd (omega arith)
-below_all p (suc n) i all below =
-    let parts = and_parts (p n) (list_all p (falling n)) all in
-    elim (cases_lt i n) [
-      | inl h ↦ below_all p n i parts.1 h
-      | inr h ↦ let here : i ≡ n = omega arith in ap p here ∙ parts.0
-    ]
-
 unfoldable groups_are_small : ℕ → Bool
 groups_are_small levels = list_all (group_is_small levels) (falling 65)
 
@@ -107,7 +99,7 @@ all_groups : list_all groups_are_small (falling 4) ≡ true
 unfolding groups_are_small group_is_small
 all_groups = refl
 
-pub small_sets : (count levels k : ℕ) → count ≤ 64 → levels ≤ 3 → 0 < k → k < count →
+pub small_sets : (count levels k : ℕ) → count ≤ 64 → levels ≤ most_levels → 0 < k → k < count →
     is_small levels (reference_set count levels k) ≡ true
 unfolding groups_are_small group_is_small
 small_sets count levels k few low some below =

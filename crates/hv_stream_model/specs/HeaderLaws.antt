@@ -1,5 +1,6 @@
 -- What is read of a header is what its table was made with.
 use Rattle.std.specs.Prelude.{◌≡◌, ℕ, suc, ◌+◌, ◌-◌, ◌%◌, ◌<◌, ◌≤◌, ℤ, List, [], ◌∷◌, ◌++◌}
+use Rattle.hv_types.specs.Configuration.{most_levels}
 use Rattle.hv_types.specs.declared.bins.SliceKind.{SliceKind}
 use Rattle.hv_types.specs.declared.bins.SliceKind.TheVariants.{I, P}
 use Rattle.hv_types.specs.declared.settings.Settings.{Settings}
@@ -29,11 +30,11 @@ abbrev pub SizesAreAllowed : Type 0
 SizesAreAllowed = (cfg : Settings) → configuration.IsValid cfg → IsAllowed (size_of cfg)
 
 abbrev pub VideoParametersAreRead : Type 0
-VideoParametersAreRead = (levels : ℕ) → levels ≤ 3 → Reads read_vps (vps levels) levels
+VideoParametersAreRead = (levels : ℕ) → levels ≤ most_levels → Reads read_vps (vps levels) levels
 
 abbrev pub SequenceParametersAreRead : Type 0
 SequenceParametersAreRead =
-    (levels : ℕ) (size : Size) → levels ≤ 3 → IsAllowed size →
+    (levels : ℕ) (size : Size) → levels ≤ most_levels → IsAllowed size →
     Reads read_sps (sps levels size) (levels, size)
 
 abbrev pub PictureParametersAreRead : Type 0
@@ -45,11 +46,11 @@ SliceHeadersAreRead = (qp : ℕ) → qp ≤ 51 → Reads read_idr_slice (idr_sli
 -- ---- every value of a header can be coded
 
 abbrev pub VideoParametersAreCodable : Type 0
-VideoParametersAreCodable = (levels : ℕ) → levels ≤ 3 → AllCodable (vps levels)
+VideoParametersAreCodable = (levels : ℕ) → levels ≤ most_levels → AllCodable (vps levels)
 
 abbrev pub SequenceParametersAreCodable : Type 0
 SequenceParametersAreCodable =
-    (levels : ℕ) (size : Size) → levels ≤ 3 → IsAllowed size → AllCodable (sps levels size)
+    (levels : ℕ) (size : Size) → levels ≤ most_levels → IsAllowed size → AllCodable (sps levels size)
 
 abbrev pub PictureParametersAreCodable : Type 0
 PictureParametersAreCodable = AllCodable pps
@@ -94,7 +95,7 @@ OtherSlicesAreRead =
 
 abbrev pub OtherSlicesAreCodable : Type 0
 OtherSlicesAreCodable =
-    (levels : ℕ) (header : SliceHeader) → levels ≤ 3 → IsAllowedSlice levels header →
+    (levels : ℕ) (header : SliceHeader) → levels ≤ most_levels → IsAllowedSlice levels header →
     AllCodable (slice header)
 
 -- what is free of the header of a picture of a group, but of the first
@@ -109,7 +110,7 @@ header_of count levels qp picture = record {
 -- the header of each picture of a group but the first is one of this profile
 abbrev pub SlicesOfGroupsAreAllowed : Type 0
 SlicesOfGroupsAreAllowed =
-    (count levels qp k : ℕ) → count ≤ 64 → levels ≤ 3 → suc k < count →
+    (count levels qp k : ℕ) → count ≤ 64 → levels ≤ most_levels → suc k < count →
     (slice_header_of count levels qp (suc k) ≡ slice (header_of count levels qp (suc k))) ×
     IsAllowedSlice levels (header_of count levels qp (suc k))
 

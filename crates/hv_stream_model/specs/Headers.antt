@@ -7,7 +7,7 @@ use Rattle.std.specs.List.{count_by}
 use Rattle.hv_types.specs.declared.bins.SliceKind.{SliceKind}
 use Rattle.hv_types.specs.declared.bins.SliceKind.TheVariants.{I, P}
 use Rattle.hv_types.specs.declared.settings.Settings.{Settings}
-use Rattle.hv_types.specs.Configuration.{padded_width, padded_height}
+use Rattle.hv_types.specs.Configuration.{padded_width, padded_height, most_levels}
 use Rattle.hv_stream_model.specs.Bits.{bytes_of}
 use Rattle.hv_stream_model.specs.Units.{VPS_NUT, SPS_NUT, PPS_NUT, unit_of_payload}
 use Rattle.hv_stream_model.specs.Fields.{Descriptor, U, Ue, Field, u, ue, se, signed_of, HeaderScript, bits_of_fields, aligned}
@@ -314,7 +314,7 @@ read_ordering =
     free Ue >>= λ buffering.
     free Ue >>= λ levels.
     fixed (ue 0 ∷ []) >>= λ _.
-    only_if (nat_eq buffering (levels + 1) && nat_le levels 3) (Done levels)
+    only_if (nat_eq buffering (levels + 1) && nat_le levels most_levels) (Done levels)
 
 abbrev pub read_vps : HeaderScript ℕ
 read_vps = fixed vps_start >>= λ _. read_ordering >>= λ levels. fixed vps_end >>= λ _. Done levels

@@ -1,7 +1,8 @@
 use Rattle.std.proofs.Common.{arith}
 use Rattle.hv_group_model.specs.Structure.{reference_set}
 use Rattle.hv_decision.specs.Sets.{set_entries}
-use Rattle.hv_slice.proofs.SetEntryLemmas.{length-set_entries, one_entry}
+use Rattle.hv_decision.proofs.SetLemmas.{length-set_entries}
+use Rattle.hv_slice.proofs.SetEntryLemmas.{one_entry}
 use Rattle.hv_slice.proofs.references.entries.Goals as goal
 
 pub bounds-entries-from : goal.bounds-entries-from

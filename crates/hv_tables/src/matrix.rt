@@ -295,7 +295,7 @@ pub fn matrix_columns_32() -> &'static [[i8; 32]; 32]
     &COLUMNS_32
 }
 
-/// The second row of each matrix, and the third of the smallest, are those that the standard prints:
+/// The second row of each matrix, and the third of the smallest, written out as the standard has them:
 /// each entry but 64 in the first rows is one of theirs, with a sign.
 pub fn matrix_laws()
     ensures of_32 { SecondRowOf32 }

@@ -1,5 +1,5 @@
--- The reference samples of an angular mode (8.4.4.2.6), in a list that begins with the one before the corner by the
--- block's side.
+-- The reference samples of an angular mode (8.4.4.2.6), in a list that begins with the one before
+-- the corner by the block's side.
 use Rattle.std.specs.Prelude.{◌≡◌, ℕ, ◌+◌, ◌-◌, ◌*◌, ◌/◌, ◌^◌, ◌≤◌, cond, nat_eq, nat_le, ◌&&◌, List, slice_index, ℤ, pos, negsuc, ◌+ℤ◌, ◌-ℤ◌, ◌*ℤ◌}
 use Rattle.std.specs.Int.{int_shr, int_rem_euclid}
 use Rattle.std.specs.Int.RustNames.{unsigned_abs}

@@ -4,4 +4,5 @@ use Rattle.hv_sample_model.specs.IntraPrediction.{along_edge}
 
 -- the main side goes on along its own direction, and the block's edge follows the other side
 abbrev pub straight_on : (ℕ → ℕ) → (ℕ → ℕ) → ℕ → ℕ → ℕ
-straight_on main other along across = cond (nat_eq along 0) (along_edge main other across) (main (along + 1))
+straight_on main other along across =
+    cond (nat_eq along 0) (along_edge main other across) (main (along + 1))

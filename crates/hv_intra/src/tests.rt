@@ -29,8 +29,8 @@ fn line_of_8(left: &[u8; 16], corner: u8, above: &[u8; 16]) -> Line
     Line::of(&known)
 }
 
-/// The neighbours of a block of 16x16: 0, 2, 4 and so on to 128, which filtering leaves as they are.
-/// The corner is 64.
+/// The neighbours of a block of 16x16: 0, 2, 4 and so on to 128, which filtering leaves as they
+/// are. The corner is 64.
 fn rising_line() -> Line
     ensures { length result ≡ 65 }
 {
@@ -304,8 +304,8 @@ fn fractions_of_16(rt: HostRuntime) {
     );
 }
 
-/// The 33rd neighbour above is 64, in luma 32 with 16 at each side. The first row is 26 32nds of the
-/// way from one neighbour to the next, the last one 26 whole neighbours further.
+/// The 33rd neighbour above is 64, in luma 32 with 16 at each side. The first row is 26 32nds of
+/// the way from one neighbour to the next, the last one 26 whole neighbours further.
 #[test]
 fn angle_at_32(rt: HostRuntime) {
     let mut known = [Some(0u8); 129];

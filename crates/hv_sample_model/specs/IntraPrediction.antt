@@ -1,6 +1,7 @@
--- Intra prediction of a transform block from its neighbouring samples (8.4.4.2). The neighbours stand in a line: from
--- the lowest at the left upwards to the corner, and then from above the block to the right. For a block of N columns
--- and rows the line has 4 * N + 1 of them, and the corner is the one at 2 * N.
+-- Intra prediction of a transform block from its neighbouring samples (8.4.4.2). The neighbours
+-- stand in a line: from the lowest at the left upwards to the corner, and then from above the
+-- block to the right. For a block of N columns and rows the line has 4 * N + 1 of them, and the
+-- corner is the one at 2 * N.
 use Rattle.std.specs.Prelude.{ℕ, ◌+◌, ◌-◌, ◌*◌, ◌/◌, ◌^◌, Bool, cond, not, nat_eq, nat_lt, nat_le, ◌&&◌, ◌||◌, min, List, [], ◌∷◌, slice_index_or, Option, Some, None, ℤ, pos, negsuc, ◌+ℤ◌, ◌-ℤ◌, ◌*ℤ◌}
 use Rattle.std.specs.Int.{abs_diff, int_shr, int_rem_euclid}
 use Rattle.std.specs.Int.RustNames.{unsigned_abs}
@@ -49,7 +50,8 @@ minDistVerHor mode = min (abs_diff mode 26) (abs_diff mode 10)
 
 abbrev pub is_smoothed : ℕ → ℕ → Bool → Bool
 is_smoothed log2 mode is_luma =
-    is_luma && nat_le 3 log2 && not (nat_eq mode 1) && nat_lt (intraHorVerDistThres log2) (minDistVerHor mode)
+    is_luma && nat_le 3 log2 && not (nat_eq mode 1) &&
+    nat_lt (intraHorVerDistThres log2) (minDistVerHor mode)
 
 -- the neighbours that a mode predicts from
 abbrev pub filtered : ℕ → ℕ → Bool → List ℕ → List ℕ
@@ -92,10 +94,12 @@ abbrev pub dc : ℕ → Bool → List ℕ → ℕ → ℕ → ℕ
 dc log2 is_luma line x y =
     cond (is_luma && nat_lt log2 5) (edged (dcVal log2 line) log2 line x y) (dcVal log2 line)
 
--- The angular modes (8.4.4.2.6). The modes from 18 on predict from above, the others from the left in the same way,
--- with columns and rows exchanged: `main` is the side that a mode predicts from, `other` the other one.
+-- The angular modes (8.4.4.2.6). The modes from 18 on predict from above, the others from the left
+-- in the same way, with columns and rows exchanged: `main` is the side that a mode predicts from,
+-- `other` the other one.
 
--- the reference samples: those of the main side, and before the corner those of the other side, projected
+-- the reference samples: those of the main side, and before the corner those of the other side,
+-- projected
 abbrev pub ref : (ℕ → ℕ) → (ℕ → ℕ) → ℕ → ℤ → ℕ
 ref main other mode (pos i) = main i
 ref main other mode (negsuc i) =
@@ -108,7 +112,8 @@ interpolated main other mode along across =
     let index = pos (along + 1) +ℤ int_shr way 5 in
     let part = unsigned_abs (int_rem_euclid way (pos 32)) in
     cond (nat_eq part 0) (ref main other mode index)
-    (((32 - part) * ref main other mode index + part * ref main other mode (index +ℤ pos 1) + 16) / 32)
+    (((32 - part) * ref main other mode index +
+    part * ref main other mode (index +ℤ pos 1) + 16) / 32)
 
 -- the straight modes follow the other side at the block's edge, in the smaller luma blocks
 abbrev pub is_edge : ℕ → ℕ → Bool → ℕ → Bool

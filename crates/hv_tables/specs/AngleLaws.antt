@@ -5,7 +5,9 @@ use Rattle.hv_tables.specs.Angles.{intraPredAngle, invAngle}
 
 -- the modes from the left have the angles of those from above, in the other order
 abbrev pub AnglesAreMirrored : Type 0
-AnglesAreMirrored = (mode : ℕ) → 2 ≤ mode → mode ≤ 34 → intraPredAngle (36 - mode) ≡ intraPredAngle mode
+AnglesAreMirrored =
+    (mode : ℕ) → 2 ≤ mode → mode ≤ 34 →
+    intraPredAngle (36 - mode) ≡ intraPredAngle mode
 
 -- on the two sides of the horizontal mode, 10, the lines go as far, one backwards
 abbrev pub AnglesTurnAtHorizontal : Type 0

@@ -1,5 +1,5 @@
--- The second rows of the transform matrices, and the third of the smallest, as the standard prints them (8.6.4.2). All
--- entries but those of the first rows are numbers of these rows, with a sign.
+-- The second rows of the transform matrices, and the third of the smallest, as the standard has
+-- them (8.6.4.2). All entries but those of the first rows are numbers of these rows, with a sign.
 use Rattle.std.specs.Prelude.{◌≡◌, ℕ, List, [], ◌∷◌, ◌++◌, map, reverse, ℤ, pos, neg_ℤ}
 use Rattle.hv_lemmas.specs.Lists.{tabulate}
 use Rattle.hv_tables.specs.TransformMatrix.{transMatrix}

@@ -1,5 +1,5 @@
--- The rules that the quantisers of chroma (8.6.1), the factors of scaling (8.6.3), and the encoder's factors of
--- quantisation follow.
+-- The rules that the quantisers of chroma (8.6.1), the factors of scaling (8.6.3), and the
+-- encoder's factors of quantisation follow.
 use Rattle.std.specs.Prelude.{◌≡◌, ℕ, ◌+◌, ◌-◌, ◌*◌, ◌/◌, ◌%◌, ◌^◌, ◌<◌, ◌≤◌}
 use Rattle.hv_tables.specs.Quantisers.{chroma_qp, levelScale, quantisation_factor}
 use Rattle.hv_tables.specs.AngleLaws.{nearest}
@@ -23,7 +23,8 @@ ChromaStaysSixBehind = (qp : ℕ) → 44 ≤ qp → chroma_qp qp ≡ qp - 6
 abbrev pub ScalesAreNearest : Type 0
 ScalesAreNearest =
     (qp : ℕ) →
-    ((2 * levelScale qp - 1) ^ 6 < 2 ^ (38 + qp % 6)) × (2 ^ (38 + qp % 6) < (2 * levelScale qp + 1) ^ 6)
+    ((2 * levelScale qp - 1) ^ 6 < 2 ^ (38 + qp % 6)) ×
+    (2 ^ (38 + qp % 6) < (2 * levelScale qp + 1) ^ 6)
 
 -- a factor is 2 ^ 20 by levelScale, to the nearest
 abbrev pub FactorsAreNearest : Type 0

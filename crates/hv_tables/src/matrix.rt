@@ -295,8 +295,8 @@ pub fn matrix_columns_32() -> &'static [[i8; 32]; 32]
     &COLUMNS_32
 }
 
-/// The second row of each matrix, and the third of the smallest, are those that the standard prints:
-/// each entry but 64 in the first rows is one of theirs, with a sign.
+/// The second row of each matrix, and the third of the smallest, written out: each entry but 64 in
+/// the first rows is one of theirs, with a sign.
 pub fn matrix_laws()
     ensures of_32 { SecondRowOf32 }
     ensures of_16 { SecondRowOf16 }

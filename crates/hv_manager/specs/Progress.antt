@@ -4,8 +4,8 @@ use Rattle.std.specs.List.{list_any}
 use Rattle.hv_group_model.specs.Structure.{Coded, coding, place_in, picture_at, coded_of}
 use Rattle.hv_decision.specs.Structure.{Structure, IsStructure}
 
--- How many pictures and levels the group has, how many of its pictures are begun and written, which are the first ones
--- in coding order, and of each picture whether it is filtered.
+-- How many pictures and levels the group has, how many of its pictures are begun and written,
+-- which are the first ones in coding order, and of each picture whether it is filtered.
 pub record Progress : Type 0 where
   pub count : ℕ
   pub levels : ℕ

@@ -12,7 +12,8 @@ use std::alloc::Global;
 /// memory.
 pub(crate) fn all_live(alloc: Global, structure: &Structure) -> Result<Vec<u8>, NoMemory>
     requires { IsStructure structure.now }
-    ensures { IfOk result (λ live. AreCounts structure.now.count structure.now.levels 0 live.items) }
+    ensures { IfOk result (λ live.
+        AreCounts structure.now.count structure.now.levels 0 live.items) }
 {
     let mut live = vec![in alloc; 0; usize::from(structure.count())]?;
     for place in 0..structure.count() {

@@ -52,8 +52,8 @@ impl Refs {
         })
     }
 
-    /// The next picture in coding order that isn't begun. None comes exactly where all are begun. It
-    /// is in constant time.
+    /// The next picture in coding order that isn't begun. None comes exactly where all are begun.
+    /// It is in constant time.
     pub fn next(&self) -> Option<u8>
         ensures { MatchOption result
             (self.now.begun ≡ self.now.count)
@@ -105,8 +105,8 @@ impl Refs {
         self.written += 1;
     }
 
-    /// How many pictures that aren't written are `k` or refer to it (8.3.4): those that refer to it,
-    /// and one more until `k` is written. It is in constant time.
+    /// How many pictures that aren't written are `k` or refer to it (8.3.4): those that refer to
+    /// it, and one more until `k` is written. It is in constant time.
     pub fn live(&self, k: u8) -> u32
         requires { k < self.now.count }
         ensures value { result ≡ live_of self.now k }

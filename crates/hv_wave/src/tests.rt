@@ -121,9 +121,14 @@ fn given_back(alloc: Global, columns: u32, rows: u32, segment: u8) -> Result<u32
 
 #[test]
 fn each_is_given_back(rt: HostRuntime) -> Result<(), Fail> {
+    assert_eq!(rt; given_back(rt.alloc(), 1, 1, 1)?, 1);
+    assert_eq!(rt; given_back(rt.alloc(), 1, 1, 4)?, 1);
     assert_eq!(rt; given_back(rt.alloc(), 1, 1, 64)?, 1);
+    assert_eq!(rt; given_back(rt.alloc(), 1, 17, 1)?, 17);
     assert_eq!(rt; given_back(rt.alloc(), 1, 17, 4)?, 17);
+    assert_eq!(rt; given_back(rt.alloc(), 1, 17, 64)?, 17);
     assert_eq!(rt; given_back(rt.alloc(), 64, 1, 1)?, 64);
+    assert_eq!(rt; given_back(rt.alloc(), 64, 1, 4)?, 16);
     assert_eq!(rt; given_back(rt.alloc(), 64, 1, 64)?, 1);
     assert_eq!(rt; given_back(rt.alloc(), 64, 34, 1)?, 64 * 34);
     assert_eq!(rt; given_back(rt.alloc(), 64, 34, 4)?, 16 * 34);

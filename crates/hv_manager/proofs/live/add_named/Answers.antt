@@ -3,6 +3,17 @@ use Rattle.hv_manager.proofs.StructureLaws.{first_below, second_below, named_sum
 use Rattle.hv_manager.proofs.CountLaws.{small_enough, small_more}
 use Rattle.hv_manager.proofs.live.add_named.Goals as goal
 
+pub returns-clause-each : goal.returns-clause-each
+returns-clause-each c k below =
+    omega (
+      arith,
+      c.add.ensures.each k (omega (arith, c.requires.count)),
+      c.add-2.ensures.each k (omega (arith, c.add.ensures.count, c.requires.count)),
+      c.add-3.ensures.each k (omega (arith, c.add-2.ensures.count, c.add.ensures.count, c.requires.count)),
+      named_sum c.args.structure.now c.args.picture c.first.result c.second.result k c.requires.structure
+          c.requires.picture c.first.ensures c.second.ensures.value,
+    )
+
 pub add-requires-2-clause-below : goal.add-requires-2-clause-below
 add-requires-2-clause-below c x e =
     omega (
@@ -34,14 +45,3 @@ add-requires-3-clause-small c =
     small_enough 66 c.add-2.new.live.items (omega arith)
     (small_more 65 c.first.result c.add.new.live.items c.add-2.new.live.items c.add-2.ensures.count c.add-2.ensures.each
     (small_more 64 (Some c.args.picture) c.args.live.now.items c.add.new.live.items c.add.ensures.count c.add.ensures.each c.requires.small))
-
-pub returns-clause-each : goal.returns-clause-each
-returns-clause-each c k below =
-    omega (
-      arith,
-      c.add.ensures.each k (omega (arith, c.requires.count)),
-      c.add-2.ensures.each k (omega (arith, c.add.ensures.count, c.requires.count)),
-      c.add-3.ensures.each k (omega (arith, c.add-2.ensures.count, c.add.ensures.count, c.requires.count)),
-      named_sum c.args.structure.now c.args.picture c.first.result c.second.result k c.requires.structure
-          c.requires.picture c.first.ensures c.second.ensures.value,
-    )

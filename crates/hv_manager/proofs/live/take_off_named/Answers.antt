@@ -4,6 +4,18 @@ use Rattle.hv_manager.specs.Progress.{coded_at, one_at}
 use Rattle.hv_manager.proofs.StructureLaws.{first_below, second_below, named_sum, one_at-same}
 use Rattle.hv_manager.proofs.live.take_off_named.Goals as goal
 
+pub returns-clause-each : goal.returns-clause-each
+returns-clause-each c k below =
+    omega (
+      arith,
+      c.take_off.ensures.each k (omega (arith, c.requires.count)),
+      c.take_off-2.ensures.each k (omega (arith, c.take_off.ensures.count, c.requires.count)),
+      c.take_off-3.ensures.each k
+          (omega (arith, c.take_off-2.ensures.count, c.take_off.ensures.count, c.requires.count)),
+      named_sum c.args.structure.now c.args.picture c.first.result c.second.result k c.requires.structure
+          c.requires.picture c.first.ensures c.second.ensures.value,
+    )
+
 pub take_off-requires-clause-held : goal.take_off-requires-clause-held
 take_off-requires-clause-held c x e =
     let s = c.args.structure.now in
@@ -70,16 +82,4 @@ take_off-requires-3-clause-held c x e =
           c.requires.picture c.first.ensures c.second.ensures.value,
       ap (λ o. one_at o x) e,
       one_at-same x,
-    )
-
-pub returns-clause-each : goal.returns-clause-each
-returns-clause-each c k below =
-    omega (
-      arith,
-      c.take_off.ensures.each k (omega (arith, c.requires.count)),
-      c.take_off-2.ensures.each k (omega (arith, c.take_off.ensures.count, c.requires.count)),
-      c.take_off-3.ensures.each k
-          (omega (arith, c.take_off-2.ensures.count, c.take_off.ensures.count, c.requires.count)),
-      named_sum c.args.structure.now c.args.picture c.first.result c.second.result k c.requires.structure
-          c.requires.picture c.first.ensures c.second.ensures.value,
     )

@@ -1,2 +1,2 @@
-pub mod StructureLaws
-pub mod CountLaws
+pub mod StructureLemmas
+pub mod CountLemmas

@@ -1,5 +1,5 @@
-pub mod SegmentLaws
-pub mod StageLaws
-pub mod ReadyLaws
-pub mod StepLaws
-pub mod CompletionLaws
+pub mod SegmentLemmas
+pub mod StageLemmas
+pub mod ReadyLemmas
+pub mod StepLemmas
+pub mod CompletionLemmas

@@ -1,6 +1,6 @@
 use Rattle.std.proofs.Common.{Some, arith}
-use Rattle.hv_manager.proofs.StructureLaws.{first_below, second_below, named_sum}
-use Rattle.hv_manager.proofs.CountLaws.{small_enough, small_more}
+use Rattle.hv_manager.proofs.StructureLemmas.{first_below, second_below, named_sum}
+use Rattle.hv_manager.proofs.CountLemmas.{small_enough, small_more}
 use Rattle.hv_manager.proofs.live.add_named.Goals as goal
 
 pub returns-clause-each : goal.returns-clause-each

@@ -1,5 +1,5 @@
 use Rattle.std.proofs.Common.{arith}
-use Rattle.hv_manager.proofs.CountLaws.{counted_all, counted_more, counted_small}
+use Rattle.hv_manager.proofs.CountLemmas.{counted_all, counted_more, counted_small}
 use Rattle.hv_manager.proofs.live.all_live.Goals as goal
 
 pub add_named-requires-clause-small : goal.add_named-requires-clause-small

@@ -1,4 +1,4 @@
-use Rattle.hv_manager.proofs.CountLaws.{AreCountsBefore}
+use Rattle.hv_manager.proofs.CountLemmas.{AreCountsBefore}
 use Rattle.hv_manager.proofs.live.all_live.Given as goal
 
 abbrev pub invariant-loop-place : goal.invariant-loop-place

@@ -1,7 +1,7 @@
 use Rattle.std.proofs.Common.{◌≡◌, ◌<◌, ap, subst, refl, arith}
 use Rattle.std.specs.Prelude.{slice_get}
 use Rattle.hv_manager.specs.Progress.{coded_at, one_at}
-use Rattle.hv_manager.proofs.StructureLaws.{first_below, second_below, named_sum, one_at-same}
+use Rattle.hv_manager.proofs.StructureLemmas.{first_below, second_below, named_sum, one_at-same}
 use Rattle.hv_manager.proofs.live.take_off_named.Goals as goal
 
 pub returns-clause-each : goal.returns-clause-each

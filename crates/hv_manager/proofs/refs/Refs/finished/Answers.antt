@@ -1,6 +1,6 @@
 use Rattle.std.proofs.Common.{arith, sym, subst}
 use Rattle.hv_manager.specs.Progress.{IsNextWritten}
-use Rattle.hv_manager.proofs.CountLaws.{counted_held, counted_less}
+use Rattle.hv_manager.proofs.CountLemmas.{counted_held, counted_less}
 use Rattle.hv_manager.proofs.refs.Refs.finished.Goals as goal
 
 pub take_off_named-requires-clause-held : goal.take_off_named-requires-clause-held

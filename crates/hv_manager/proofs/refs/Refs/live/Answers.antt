@@ -1,7 +1,7 @@
 use Rattle.std.proofs.Common.{◌∙◌, ◌<◌, ap, arith, sym, subst}
 use Rattle.std.specs.Prelude.{slice_index}
 use Rattle.std.proofs.lemmas.List.{get_or_read}
-use Rattle.hv_manager.proofs.CountLaws.{counted_most}
+use Rattle.hv_manager.proofs.CountLemmas.{counted_most}
 use Rattle.hv_manager.proofs.refs.Refs.live.Goals as goal
 
 pub returns-clause-most : goal.returns-clause-most

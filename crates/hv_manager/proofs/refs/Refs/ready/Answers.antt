@@ -1,7 +1,7 @@
 use Rattle.std.proofs.Common.{◌≡◌, ◌<◌, ◌∙◌, sym, subst, true}
 use Rattle.hv_manager.specs.Progress.{IsReady}
-use Rattle.hv_manager.proofs.StructureLaws.{first_below, second_below}
-use Rattle.hv_manager.proofs.CountLaws.{ready_else, ready_then, reference_there}
+use Rattle.hv_manager.proofs.StructureLemmas.{first_below, second_below}
+use Rattle.hv_manager.proofs.CountLemmas.{ready_else, ready_then, reference_there}
 use Rattle.hv_manager.proofs.refs.Refs.ready.Goals as goal
 
 pub is_filtered_or_none-first-requires : goal.is_filtered_or_none-first-requires

@@ -1,6 +1,6 @@
 use Rattle.std.proofs.Common.{◌∙◌, sym, ap}
 use Rattle.hv_wave.specs.Segments.{per_row}
-use Rattle.hv_wave.proofs.StepLaws.{complete_by}
+use Rattle.hv_wave.proofs.StepLemmas.{complete_by}
 use Rattle.hv_wave.proofs.wave.Wave.complete.Goals as goal
 
 pub returns : goal.returns

@@ -1,7 +1,7 @@
 use Rattle.std.proofs.Common.{◌∙◌, ◌≡◌, ◌/◌, ◌+◌, sym, ap, subst, false, arith, slice_set}
 use Rattle.hv_wave.specs.Segments.{Taken, Done, stage, with_stage, per_row}
 use Rattle.hv_wave.specs.Rows.{as_seen}
-use Rattle.hv_wave.proofs.StepLaws.{row_with, taken_there, taken_read, taken_row, seen_done, whole_after}
+use Rattle.hv_wave.proofs.StepLemmas.{row_with, taken_there, taken_read, taken_row, seen_done, whole_after}
 use Rattle.hv_wave.proofs.wave.Wave.done.Goals as goal
 
 pub index_mut-row-requires : goal.index_mut-row-requires

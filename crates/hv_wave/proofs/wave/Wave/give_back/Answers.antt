@@ -1,7 +1,7 @@
 use Rattle.std.proofs.Common.{◌∙◌, ◌≡◌, ◌/◌, sym, ap, subst, false, arith, slice_set}
 use Rattle.hv_wave.specs.Segments.{Taken, Waiting, stage, with_stage, per_row}
 use Rattle.hv_wave.specs.Rows.{as_seen}
-use Rattle.hv_wave.proofs.StepLaws.{row_with, taken_there, taken_read, seen_given_back}
+use Rattle.hv_wave.proofs.StepLemmas.{row_with, taken_there, taken_read, seen_given_back}
 use Rattle.hv_wave.proofs.wave.Wave.give_back.Goals as goal
 
 pub index_mut-requires : goal.index_mut-requires

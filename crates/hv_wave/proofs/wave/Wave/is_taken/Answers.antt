@@ -1,7 +1,7 @@
 use Rattle.std.proofs.Common.{◌∙◌, sym, ap, refl}
 use Rattle.std.proofs.lemmas.Bool.{both_ways, ltb-true, ltb-false}
 use Rattle.hv_wave.specs.Segments.{per_row}
-use Rattle.hv_wave.proofs.StepLaws.{taken_some, taken_none}
+use Rattle.hv_wave.proofs.StepLemmas.{taken_some, taken_none}
 use Rattle.hv_wave.proofs.wave.Wave.is_taken.Goals as goal
 
 pub returns-in-Some : goal.returns-in-Some

@@ -1,4 +1,4 @@
-use Rattle.hv_wave.proofs.StepLaws.{seen_new}
+use Rattle.hv_wave.proofs.StepLemmas.{seen_new}
 use Rattle.hv_wave.proofs.wave.Wave.new.Goals as goal
 
 pub returns : goal.returns

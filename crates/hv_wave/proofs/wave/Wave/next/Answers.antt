@@ -2,9 +2,9 @@ use Rattle.std.proofs.Common.{◌∙◌, ◌≡◌, ◌*◌, ◌+◌, sym, ap, s
 use Rattle.std.specs.Prelude.{MatchOption}
 use Rattle.hv_wave.specs.Segments.{Taken, IsFirstReady, NoneIsReady, with_stage, per_row}
 use Rattle.hv_wave.specs.Rows.{as_seen, row_at}
-use Rattle.hv_wave.proofs.ReadyLaws.{first_ready}
-use Rattle.hv_wave.proofs.StageLaws.{place_there}
-use Rattle.hv_wave.proofs.StepLaws.{none_by, first_by, first_read, first_more, seen_taken}
+use Rattle.hv_wave.proofs.ReadyLemmas.{first_ready}
+use Rattle.hv_wave.proofs.StageLemmas.{place_there}
+use Rattle.hv_wave.proofs.StepLemmas.{none_by, first_by, first_read, first_more, seen_taken}
 use Rattle.hv_wave.proofs.wave.Wave.next.Goals as goal
 
 pub returns-in_err-index : goal.returns-in_err-index

@@ -1,7 +1,7 @@
 use Rattle.std.proofs.Common.{◌∙◌, ap}
 use Rattle.std.specs.Int.{div_ceil}
 use Rattle.hv_wave.specs.Segments.{per_row}
-use Rattle.hv_wave.proofs.SegmentLaws.{div_ceil-row}
+use Rattle.hv_wave.proofs.SegmentLemmas.{div_ceil-row}
 use Rattle.hv_wave.proofs.wave.Wave.per_row.Goals as goal
 
 pub returns-clause-value : goal.returns-clause-value

@@ -9,7 +9,7 @@ use Rattle.std.proofs.lemmas.List.Sums.{count_by-le-length, sum_by_more, sum_by-
 use Rattle.hv_group_model.specs.Structure.{Coded, coded, coding, picture_at}
 use Rattle.hv_decision.specs.Structure.{Structure, IsStructure}
 use Rattle.hv_manager.specs.Progress.{AreCounts, coded_at, filtered_or_none, names, one_where, one_at}
-use Rattle.hv_manager.proofs.StructureLaws.{coded-picture_at, length-order, one_at-le, two_references}
+use Rattle.hv_manager.proofs.StructureLemmas.{coded-picture_at, length-order, one_at-le, two_references}
 
 -- ---- upwards
 

@@ -6,8 +6,8 @@ use Rattle.std.proofs.lemmas.Nat.{div-mul-add, mod-mul-add, div_below, mod_below
 use Rattle.hv_wave.specs.declared.rows.Row.{Row}
 use Rattle.hv_wave.specs.Segments.{Waiting, Done, per_row, stage, above, IsReady, IsFirstReady, NoneIsReady}
 use Rattle.hv_wave.specs.Rows.{row_at, no_row, as_seen, goes_on, row_goes_on, done_above, IsWhole, IsFirstToGoOn, NoneGoesOnBefore}
-use Rattle.hv_wave.proofs.SegmentLaws.{covering_behind}
-use Rattle.hv_wave.proofs.StageLaws.{stage_in-done, stage_in-free, done_from_stage, waiting_from_stage, stage_at, stage_at_place, length-stages_of, place_there}
+use Rattle.hv_wave.proofs.SegmentLemmas.{covering_behind}
+use Rattle.hv_wave.proofs.StageLemmas.{stage_in-done, stage_in-free, done_from_stage, waiting_from_stage, stage_at, stage_at_place, length-stages_of, place_there}
 
 -- ---- the test of a row, as facts
 

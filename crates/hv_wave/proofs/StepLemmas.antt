@@ -10,8 +10,8 @@ use Rattle.std.proofs.lemmas.Nat.{div_below, mod_below, div-add-mod'}
 use Rattle.hv_wave.specs.declared.rows.Row.{Row}
 use Rattle.hv_wave.specs.Segments.{Stage, Waiting, Taken, Done, Wave, per_row, stage, opening, with_stage, IsComplete, NoneIsReady}
 use Rattle.hv_wave.specs.Rows.{row_at, no_row, stage_in, stage_of, as_seen, IsRow, IsWhole, IsFirstToGoOn, NoneGoesOnBefore, done_above}
-use Rattle.hv_wave.proofs.StageLaws.{stage_in-done, stage_in-free, stage_in-taken, stage_in-behind, done_from_stage, taken_from_stage, stage_at, stage_at_place, stages_of, stages_of-set, length-stages_of, place_there}
-use Rattle.hv_wave.proofs.ReadyLaws.{goes_from_test, none_ready}
+use Rattle.hv_wave.proofs.StageLemmas.{stage_in-done, stage_in-free, stage_in-taken, stage_in-behind, done_from_stage, taken_from_stage, stage_at, stage_at_place, stages_of, stages_of-set, length-stages_of, place_there}
+use Rattle.hv_wave.proofs.ReadyLemmas.{goes_from_test, none_ready}
 
 abbrev pub row_with : ℕ → Bool → Row
 row_with done taken = record { done = done; taken = taken }

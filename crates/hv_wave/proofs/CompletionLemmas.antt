@@ -4,7 +4,7 @@ use Rattle.std.specs.Prelude.{◌⊎◌}
 use Rattle.std.proofs.lemmas.Bool.{cases_lt}
 use Rattle.std.proofs.lemmas.Nat.{div-add-mod', mod_below}
 use Rattle.hv_wave.specs.Segments.{Stage, Waiting, Taken, Done, Wave, above, covering, column_behind, per_row, stage, IsReady, NoneIsReady, NoneIsTaken, WavesGoOn}
-use Rattle.hv_wave.proofs.SegmentLaws.{covering_behind}
+use Rattle.hv_wave.proofs.SegmentLemmas.{covering_behind}
 
 stage_cases : (x : Stage) → (x ≡ Waiting) ⊎ ((x ≡ Taken) ⊎ (x ≡ Done))
 stage_cases Waiting = inl refl

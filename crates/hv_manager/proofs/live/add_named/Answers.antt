@@ -11,7 +11,7 @@ returns-clause-each c k below =
       c.add-2.ensures.each k (omega (arith, c.add.ensures.count, c.requires.count)),
       c.add-3.ensures.each k (omega (arith, c.add-2.ensures.count, c.add.ensures.count, c.requires.count)),
       named_sum c.args.structure.now c.args.picture c.first.result c.second.result k c.requires.structure
-          c.requires.picture c.first.ensures c.second.ensures.value,
+          c.requires.picture c.first.ensures c.second.ensures,
     )
 
 pub add-requires-2-clause-below : goal.add-requires-2-clause-below
@@ -34,7 +34,7 @@ add-requires-3-clause-below c x e =
     omega (
       arith,
       second_below c.args.structure.now c.args.picture c.second.result c.requires.structure c.requires.picture
-          c.second.ensures.value x e,
+          c.second.ensures x e,
       c.add-2.ensures.count,
       c.add.ensures.count,
       c.requires.count,

@@ -13,7 +13,7 @@ returns-clause-each c k below =
       c.take_off-3.ensures.each k
           (omega (arith, c.take_off-2.ensures.count, c.take_off.ensures.count, c.requires.count)),
       named_sum c.args.structure.now c.args.picture c.first.result c.second.result k c.requires.structure
-          c.requires.picture c.first.ensures c.second.ensures.value,
+          c.requires.picture c.first.ensures c.second.ensures,
     )
 
 pub take_off-requires-clause-held : goal.take_off-requires-clause-held
@@ -62,7 +62,7 @@ take_off-requires-3-clause-below c x e =
     omega (
       arith,
       second_below c.args.structure.now c.args.picture c.second.result c.requires.structure c.requires.picture
-          c.second.ensures.value x e,
+          c.second.ensures x e,
       c.take_off-2.ensures.count,
       c.take_off.ensures.count,
       c.requires.count,
@@ -72,14 +72,14 @@ pub take_off-requires-3-clause-held : goal.take_off-requires-3-clause-held
 take_off-requires-3-clause-held c x e =
     let below : x < c.args.structure.now.count =
     second_below c.args.structure.now c.args.picture c.second.result c.requires.structure c.requires.picture
-    c.second.ensures.value x e in
+    c.second.ensures x e in
     omega (
       arith,
       c.take_off.ensures.each x (omega (arith, c.requires.count)),
       c.take_off-2.ensures.each x (omega (arith, c.take_off.ensures.count, c.requires.count)),
       c.requires.held x below,
       named_sum c.args.structure.now c.args.picture c.first.result c.second.result x c.requires.structure
-          c.requires.picture c.first.ensures c.second.ensures.value,
+          c.requires.picture c.first.ensures c.second.ensures,
       ap (λ o. one_at o x) e,
       one_at-same x,
     )

@@ -17,7 +17,7 @@ is_filtered_or_none-second-requires c x e =
     reference_there c.self.inside.structure c.self.inside.filtered.items c.deref-2.result.now x
     c.self.invariant.filtered c.deref-2.ensures.value
     (second_below c.self.inside.structure c.args.k c.second.result c.self.invariant.ranges below
-    c.second.ensures.value x e)
+    c.second.ensures x e)
 
 pub returns-then-first : goal.returns-then-first
 returns-then-first c =
@@ -26,7 +26,7 @@ returns-then-first c =
     subst (λ p. (answer ≡ true → IsReady p c.args.k) × (IsReady p c.args.k → answer ≡ true)) c.self.view_is
     (ready_then c.self.inside.structure c.self.inside.filtered.items c.deref.result.now c.deref-2.result.now
     c.args.k c.first.result c.second.result answer c.self.invariant.ranges below c.deref.ensures.value
-    c.deref-2.ensures.value c.first.ensures c.second.ensures.value
+    c.deref-2.ensures.value c.first.ensures c.second.ensures
     (sym c.is_filtered_or_none-first.ensures ∙ c.if-first.true) c.is_filtered_or_none-second.ensures)
 
 pub returns-else-first : goal.returns-else-first

@@ -1,6 +1,6 @@
 -- Lists of numbers that fall to 0 and that rise: how long they are, what stands where, and tests of
 -- all of them. For what is computed of each group, and for reference picture sets (8.3.2).
-use Rattle.std.proofs.Common.{◌≡◌, ℕ, zero, suc, ◌+◌, ◌<◌, ◌∙◌, ap, ap₂, ◌&&◌, Bool, true, refl, List, [], ◌∷◌, ◌++◌, length, map, slice_index_or, arith, ◌≤◌, inl, inr}
+use Rattle.std.proofs.Common.{◌≡◌, ℕ, zero, suc, ◌+◌, ◌<◌, ◌∙◌, ap, Bool, true, refl, [], ◌∷◌, ◌++◌, length, slice_index_or, arith, ◌≤◌, inl, inr}
 use Rattle.std.specs.Prelude.{◌⊎◌}
 use Rattle.std.specs.List.{list_all}
 use Rattle.std.proofs.lemmas.Bool.{and_parts, cases_lt}

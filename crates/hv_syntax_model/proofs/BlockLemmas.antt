@@ -1,14 +1,14 @@
 -- What is read of the bins of slice data is what was coded.
 use Rattle.std.proofs.Common.{◌≡◌, ◌≢◌, ℕ, zero, suc, ◌-◌, ◌*◌, ◌≤◌, Bool, true, false, cond, List, [], ◌∷◌, ◌++◌, refl, sym, ap, subst, arith, append_assoc}
-use Rattle.std.specs.Prelude.{not, nat_lt, ◌&&◌}
+use Rattle.std.specs.Prelude.{nat_lt}
 use Rattle.std.proofs.lemmas.Nat.{mul-le}
-use Rattle.std.proofs.lemmas.Bool.{and_parts, not-true, false≢true}
+use Rattle.std.proofs.lemmas.Bool.{false≢true}
 use Rattle.hv_types.specs.declared.bins.CtxTable.TheVariants.{Split, CbfLuma}
 use Rattle.hv_types.specs.Bins.{Bin, terminate_bin}
 use Rattle.hv_lemmas.specs.Booleans.{same}
 use Rattle.hv_stream_model.specs.Scripts.{Reads, nothing, one, ◌>>=◌, Done}
 use Rattle.hv_syntax_model.specs.Trees.{Offsets, Off, Tree, Leaf, Split as SplitTree, Outside, Intra, CodingTreeUnit, dc_mode, side, is_outside, crosses, blank_tree}
-use Rattle.hv_syntax_model.specs.Bins.{bin, Site, sites, sites_from, blocks_over, is_empty, sao_bins, transform_bins, unit_bins, tree_bins, bins, slice_bins, IsValidTree}
+use Rattle.hv_syntax_model.specs.Bins.{bin, Site, sites, sites_from, blocks_over, is_empty, sao_bins, transform_bins, unit_bins, tree_bins, bins, IsValidTree}
 use Rattle.hv_syntax_model.specs.BlockSyntax.{BlockScript, element, sao, transform_tree, coding_unit, coding_quadtree, coding_tree_unit}
 use Rattle.hv_syntax_model.specs.BlockLaws.{CodingTreeUnitsAreRead, SliceDataIsReadBack, SitesAreThere}
 use Rattle.hv_stream_model.proofs.ScriptLemmas.{reads_then, reads_map, where_true}

@@ -1,4 +1,4 @@
-use Rattle.std.proofs.Common.{◌≡◌, ◌+◌, ◌<◌, ◌≤◌, ◌*◌, drop, ℕ, ◌-◌, length, List, arith, length-drop, sym, ap, ◌∙◌, mul_comm}
+use Rattle.std.proofs.Common.{◌≡◌, ◌+◌, ◌≤◌, ◌*◌, drop, ℕ, ◌-◌, length, List, arith, length-drop, sym, ap, ◌∙◌, mul_comm}
 use Rattle.std.proofs.Math.Nat.{mul-le-mul_right, add-mul}
 use Rattle.std.proofs.lemmas.List.{length-take-le}
 use Rattle.hv_types.proofs.plane.Plane.window.Goals as goal

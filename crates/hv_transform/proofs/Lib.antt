@@ -8,3 +8,6 @@ pub mod Sizes
 pub mod ForwardSteps
 pub mod Powers
 pub mod Lists
+pub mod LaneSums
+pub mod LaneSteps
+pub mod LaneProducts

@@ -8,6 +8,7 @@
 mod dot;
 mod forward_transform;
 mod inverse_transform;
+mod lanes;
 mod laws;
 mod rows;
 mod scaling;

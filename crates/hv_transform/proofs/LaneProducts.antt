@@ -1,5 +1,5 @@
 -- The sums of four products in lanes, as sums over numbers in pairs.
-use Rattle.std.proofs.Common.{◌≡◌, ℕ, ◌+◌, ◌*◌, ◌/◌, ◌%◌, ◌<◌, ◌≤◌, List, [], ◌∷◌, ℤ, pos, ◌+ℤ◌, ◌*ℤ◌, refl, arith, ap, ap₂, ◌∙◌, sym, subst, zero, suc, slice_index_or, length, take, drop}
+use Rattle.std.proofs.Common.{◌≡◌, ℕ, ◌+◌, ◌*◌, ◌<◌, ◌≤◌, List, [], ◌∷◌, ℤ, pos, ◌+ℤ◌, ◌*ℤ◌, refl, arith, ap, ap₂, ◌∙◌, sym, subst, zero, suc, length, take, drop}
 use Rattle.std.proofs.lemmas.Int.{ints, SFits-int_wrap, to_z-of_z}
 use Rattle.std.proofs.lemmas.List.{length-take, get_or-take, get_or-drop, get_or_past}
 use Rattle.std.proofs.Math.IntN.{*ℤ_comm}
@@ -9,7 +9,7 @@ use mir.Val.{SFits}
 use Rattle.hv_model.specs.Blocks.{sum_of}
 use Rattle.hv_transform.specs.Passes.{table_row}
 use Rattle.hv_transform.specs.Lanes.{at, quad, Numbers, FourLanes, pair_of, in_pairs, weight, lane_sum}
-use Rattle.hv_transform.proofs.LaneSteps.{by_four, passed, kept}
+use Rattle.hv_transform.proofs.LaneSteps.{by_four, passed}
 
 number_of_pair : (rows : List (List ℤ)) (p i h : ℕ) → h < 2 → at (pair_of (table_row rows p) i) h ≡ in_pairs rows i (2 * p + h)
 number_of_pair rows p i h small =

@@ -1,6 +1,6 @@
 -- Sums and differences of lanes, joined lanes, and their means.
-use Rattle.std.proofs.Common.{◌≡◌, ℕ, ◌+◌, ◌-◌, ◌*◌, ◌%◌, ◌^◌, ◌<◌, ◌≤◌, List, [], ◌∷◌, ◌++◌, ℤ, pos, negsuc, ◌+ℤ◌, ◌*ℤ◌, map, refl, arith, ap, ap₂, ◌∙◌, sym, true, false, length, zero, suc, slice_index_or, replicate, All, Bool}
-use Rattle.std.proofs.lemmas.Int.{ints, clamps, to_z-of_z, wrapping_add_is, wrapping_sub_is, int_wrap_fits, fits_signed_from_abs, SFits-int_wrap}
+use Rattle.std.proofs.Common.{◌≡◌, ℕ, ◌+◌, ◌-◌, ◌*◌, ◌%◌, ◌^◌, ◌<◌, ◌≤◌, List, [], ◌∷◌, ◌++◌, ℤ, pos, negsuc, ◌+ℤ◌, map, refl, arith, ap, ap₂, ◌∙◌, true, false, length, zero, suc, replicate, All, Bool}
+use Rattle.std.proofs.lemmas.Int.{ints, clamps, to_z-of_z, wrapping_add_is, wrapping_sub_is, int_wrap_fits, fits_signed_from_abs}
 use Rattle.std.specs.Prelude.{◌-ℤ◌}
 use Rattle.std.specs.Int.{int_wrap}
 use Rattle.std.specs.Int.RustNames.{unsigned_abs}

@@ -1,12 +1,12 @@
 -- The four sums of four products, lane by lane.
-use Rattle.std.proofs.Common.{◌≡◌, ℕ, ◌+◌, ◌*◌, ◌%◌, ◌^◌, ◌<◌, ◌≤◌, List, [], ◌∷◌, ◌++◌, ℤ, pos, negsuc, ◌+ℤ◌, ◌*ℤ◌, map, refl, arith, ap, ap₂, ◌∙◌, sym, true, false, length, zero, suc, slice_index_or, take, rules}
-use Rattle.std.proofs.lemmas.Int.{ints, to_z-of_z, wraps, wrapping_add-bits, wrapping_mul-bits, int_wrap-add_left, int_wrap-add_right, SFits-int_wrap}
+use Rattle.std.proofs.Common.{◌≡◌, ℕ, ◌+◌, ◌*◌, ◌%◌, ◌<◌, ◌≤◌, List, [], ◌∷◌, ◌++◌, ℤ, pos, negsuc, ◌+ℤ◌, ◌*ℤ◌, map, refl, arith, ap₂, ◌∙◌, true, false, length, zero, suc, take}
+use Rattle.std.proofs.lemmas.Int.{to_z-of_z, wrapping_add-bits, wrapping_mul-bits, int_wrap-add_left, int_wrap-add_right}
 use Rattle.std.specs.Int.{int_wrap}
 use Rattle.std.proofs.Common.{Bool, nat_lt}
 use Rattle.std.proofs.lemmas.Bool.{leb-true}
 use lib.ListN.{get_or}
 use mir.Syntax.{w16, w32}
-use mir.Val.{of_z, to_z, SFits, Fits}
+use mir.Val.{of_z, to_z, SFits}
 use Rattle.hv_transform.specs.Lanes.{at, quad, Numbers}
 
 abbrev wide : ℕ → ℕ

@@ -11,3 +11,7 @@ pub mod Lists
 pub mod LaneSums
 pub mod LaneSteps
 pub mod LaneProducts
+pub mod Tables
+pub mod Halves
+pub mod FourLanes
+pub mod LaneHalves

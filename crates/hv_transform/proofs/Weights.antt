@@ -7,15 +7,15 @@ use Rattle.hv_tables.specs.Tables.{HasEntries}
 use Rattle.hv_transform.specs.Passes.{WeighAtMost, table_row}
 use Rattle.hv_model.specs.Blocks.{total_of}
 
-abbrev all_below : ℕ → (ℕ → Bool) → Bool
+abbrev pub all_below : ℕ → (ℕ → Bool) → Bool
 all_below zero p = true
 all_below (suc n) p = p n && all_below n p
 
-both : (a b : Bool) → a && b ≡ true → (a ≡ true) × (b ≡ true)
+pub both : (a b : Bool) → a && b ≡ true → (a ≡ true) × (b ≡ true)
 both true b h = (refl, h)
 both false b h = absurd cc
 
-all_at : (n : ℕ) (p : ℕ → Bool) → all_below n p ≡ true → (i : ℕ) → i < n → p i ≡ true
+pub all_at : (n : ℕ) (p : ℕ → Bool) → all_below n p ≡ true → (i : ℕ) → i < n → p i ≡ true
 all_at zero p h i below = absurd (omega arith)
 all_at (suc n) p h i below =
     let parts : (p n ≡ true) × (all_below n p ≡ true) = both (p n) (all_below n p) h in

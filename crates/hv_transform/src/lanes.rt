@@ -1,5 +1,5 @@
 //! Sums of products of 16 bits, in lanes of 32 bits, which wrap.
-ghost use Rattle.std.specs.Prelude.{ℕ, ◌+◌, ◌-◌, ◌*◌, ◌^◌, ◌≡◌, ◌<◌, ◌≤◌, length, slice_index_or, pos, [], ◌∷◌, ◌++◌, map, All, ◌+ℤ◌, ◌-ℤ◌};
+ghost use Rattle.std.specs.Prelude.{ℕ, ℤ, ◌+◌, ◌-◌, ◌*◌, ◌^◌, ◌≡◌, ◌<◌, ◌≤◌, length, slice_index_or, pos, [], ◌∷◌, ◌++◌, map, All, ◌+ℤ◌, ◌-ℤ◌};
 ghost use Rattle.std.specs.Int.{int_wrap};
 ghost use Rattle.std.specs.Int.RustNames.{unsigned_abs, FitsSigned};
 ghost use mir.Syntax.{w16, w32};
@@ -62,12 +62,7 @@ pub(crate) fn lane_sums<const W: usize, const P: usize>(
 /// The sums of lanes.
 #[inline(always)]
 pub(crate) fn sums(a: i32x4, b: i32x4) -> i32x4
-    requires first_four { length a ≡ 4 }
-    requires second_four { length b ≡ 4 }
-    requires first { Numbers32 a }
-    requires second { Numbers32 b }
-    ensures count { length result ≡ 4 }
-    ensures each { (j : ℕ) → j < 4 → at result j ≡ int_wrap w32 (at a j +ℤ at b j) }
+    ensures { (f g : ℕ → ℤ) → FourLanes f a → FourLanes g b → FourLanes (λ j. f j +ℤ g j) result }
 {
     a + b
 }
@@ -75,12 +70,8 @@ pub(crate) fn sums(a: i32x4, b: i32x4) -> i32x4
 /// The differences of lanes, in the other order.
 #[inline(always)]
 pub(crate) fn mirrored_differences(a: i32x4, b: i32x4) -> i32x4
-    requires first_four { length a ≡ 4 }
-    requires second_four { length b ≡ 4 }
-    requires first { Numbers32 a }
-    requires second { Numbers32 b }
-    ensures count { length result ≡ 4 }
-    ensures each { (j : ℕ) → j < 4 → at result j ≡ int_wrap w32 (at a (3 - j) -ℤ at b (3 - j)) }
+    ensures { (f g : ℕ → ℤ) → FourLanes f a → FourLanes g b →
+        FourLanes (λ j. f (3 - j) -ℤ g (3 - j)) result }
 {
     (a - b).swizzle([3, 2, 1, 0])
 }

@@ -5,9 +5,11 @@
 //! residual by `forward` and then `quantise`. None of them takes memory, and each always answers.
 #![tactic(auto)]
 
+mod column_sums;
 mod dot;
 mod forward_transform;
 mod inverse_transform;
+mod lane_weights;
 mod lanes;
 mod laws;
 mod rows;

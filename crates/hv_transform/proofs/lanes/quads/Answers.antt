@@ -1,7 +1,6 @@
-use Rattle.std.proofs.Common.{◌≡◌, ℕ, List, ℤ, pos, map, refl, arith, rules, take, ◌∷◌, ◌++◌, [], ◌*◌}
-use mir.Val.{SFits, of_z}
-use mir.Syntax.{w16, w32}
-use Rattle.hv_transform.specs.Lanes.{at, quad}
+use Rattle.std.proofs.Common.{map, refl, arith, take, ◌∷◌, []}
+use mir.Val.{of_z}
+use mir.Syntax.{w16}
 use Rattle.hv_transform.proofs.LaneSums.{quad_is, always}
 use Rattle.hv_transform.proofs.lanes.quads.Goals as goal
 

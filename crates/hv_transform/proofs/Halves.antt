@@ -98,13 +98,13 @@ halved log2 h =
     }
 
 -- the coefficients with odd numbers, and the others, of a column in order
-in_order_odd : (d k : ℕ) (c : ℕ → ℤ) → in_order (suc d) c (2 * k + 1) ≡ c k
+pub in_order_odd : (d k : ℕ) (c : ℕ → ℤ) → in_order (suc d) c (2 * k + 1) ≡ c k
 in_order_odd d k c =
     let odd : (2 * k + 1) % 2 ≡ 1 = omega arith in
     let half : (2 * k + 1) / 2 ≡ k = omega arith in
     rw (odd, half) refl
 
-in_order_even : (d k : ℕ) (c : ℕ → ℤ) → in_order (suc d) c (2 * k) ≡ in_order d (λ r. c (2 ^ (d + 2) + r)) k
+pub in_order_even : (d k : ℕ) (c : ℕ → ℤ) → in_order (suc d) c (2 * k) ≡ in_order d (λ r. c (2 ^ (d + 2) + r)) k
 in_order_even d k c =
     let even : 2 * k % 2 ≡ 0 = omega arith in
     let half : 2 * k / 2 ≡ k = omega arith in

@@ -74,7 +74,7 @@ clamped xs lows highs =
     let raised = sel_l (less xs lows) lows xs in
     sel_l (less raised highs) raised highs
 
-abbrev narrowed : List ℕ → List ℤ
+abbrev pub narrowed : List ℕ → List ℤ
 narrowed xs = map (to_z w16) (map (act1 (cast signed signed w16) (s_int w32) (s_int w16)) xs)
 
 fits16 : (z : ℤ) → lt_z z (negsuc 32767) ≡ false → lt_z z (pos 32767) ≡ true → SFits w16 z
@@ -198,3 +198,10 @@ small_append (x ∷ xs) ys g h (suc k) d below = small_append xs ys (λ k d belo
 
 pub length-eight : (f : ℤ → ℤ) (xs ys : List ℤ) → length xs ≡ 4 → length ys ≡ 4 → length (map f (xs ++ ys)) ≡ 8
 length-eight f xs ys l m = length-map (xs ++ ys) f ∙ length-append xs ys ∙ ap₂ (λ a b. a + b) l m
+
+pub clamps_are : (n : ℕ) (zs : List ℤ) → length zs ≡ n → Numbers32 zs → narrowed (clamped (map (of_z w32) zs) (replicate n 4294934528) (replicate n 32767)) ≡ map clip16 zs
+clamps_are zero [] l f = refl
+clamps_are zero (z ∷ zs) l f = absurd (omega arith)
+clamps_are (suc n) [] l f = absurd (omega arith)
+clamps_are (suc n) (z ∷ zs) l f =
+    ap₂ (λ a b. a ++ b) (same_by _ _ (of_z w32 z) refl refl ∙ ap (λ v. clip16 v ∷ []) (to_z-of_z w32 z (f 0))) (clamps_are n zs (omega arith) (λ k. f (suc k)))

@@ -15,3 +15,6 @@ pub mod Tables
 pub mod Halves
 pub mod FourLanes
 pub mod LaneHalves
+pub mod Parts
+pub mod Order
+pub mod Means

@@ -1,10 +1,12 @@
 -- Sums of products in lanes of 32 bits.
-use Rattle.std.specs.Prelude.{◌≡◌, ℕ, ◌+◌, ◌*◌, ◌/◌, ◌%◌, ◌^◌, ◌<◌, ◌≤◌, zero, suc, cond, nat_eq, List, length, slice_index_or, ℤ, pos, ◌+ℤ◌, ◌*ℤ◌, take, drop}
+use Rattle.std.specs.Prelude.{◌≡◌, ℕ, ◌+◌, ◌-◌, ◌*◌, ◌/◌, ◌%◌, ◌^◌, ◌<◌, ◌≤◌, zero, suc, cond, nat_eq, nat_lt, List, [], length, slice_index_or, ℤ, pos, ◌+ℤ◌, ◌*ℤ◌, take, drop}
 use Rattle.std.specs.Int.{int_wrap}
 use Rattle.std.specs.Int.RustNames.{FitsSigned}
 use mir.Syntax.{w16, w32}
 use Rattle.hv_tables.specs.TransformMatrix.{transMatrix}
 use Rattle.hv_model.specs.Blocks.{sum_of}
+use Rattle.hv_model.specs.Clipping.{clip16}
+use Rattle.hv_model.specs.Quantisation.{rounded}
 use Rattle.hv_transform.specs.Passes.{table_row}
 
 abbrev pub at : List ℤ → ℕ → ℤ
@@ -91,3 +93,48 @@ numbers_from rows i p r = in_pairs rows i (2 * p + r)
 -- four places of the sums over a column that stands in order, from place n on
 abbrev pub ColumnSums : ℕ → (ℕ → ℤ) → ℕ → List ℤ → Type 0
 ColumnSums d c n lanes = FourLanes (λ j. column_sum (d + 2) (in_order d c) (n + j)) lanes
+
+-- the coefficient that stands at position r of a column in order
+abbrev pub place : ℕ → ℕ → ℕ
+place zero r = r
+place (suc d) r = cond (nat_lt r (2 ^ (d + 2))) (2 * r + 1) (2 * place d (r - 2 ^ (d + 2)))
+
+-- the numbers of two rows in turn
+abbrev pub woven : List ℤ → List ℤ → ℕ → ℤ
+woven first second k = cond (nat_eq (k % 2) 0) (at first (k / 2)) (at second (k / 2))
+
+-- the numbers of a table of pairs
+abbrev pub entry_of : List (List ℕ) → ℕ → ℕ → ℕ
+entry_of table p h = slice_index_or (slice_index_or table p []) h 0
+
+-- which rows of a block of 2^(d + 2) rows stand in pairs
+pub record IsOrder (d pairs : ℕ) (table : List (List ℕ)) : Type 0 where
+  pub first : (p : ℕ) → p < pairs → entry_of table p 0 ≡ place d (2 * p)
+  pub second : (p : ℕ) → p < pairs → entry_of table p 1 ≡ place d (2 * p + 1)
+
+-- each pair rises, and has rows of a block of n rows
+abbrev pub ArePairs : ℕ → ℕ → List (List ℕ) → Type 0
+ArePairs pairs n table = (p : ℕ) → p < pairs → (entry_of table p 0 < entry_of table p 1) × (entry_of table p 1 < n)
+
+-- in their first columns, rows have the rows of a block of n columns in pairs
+abbrev pub HasPairs : ℕ → ℕ → ℕ → List ℤ → List (List ℤ) → Type 0
+HasPairs d n columns block rows = (i r : ℕ) → i < columns → r < n → in_pairs rows i r ≡ at block (place d r * n + i)
+
+-- the numbers behind the first eight rows of n columns are 0
+abbrev pub IsShort : ℕ → List ℤ → Type 0
+IsShort n block = (k : ℕ) → 8 * n ≤ k → at block k ≡ pos 0
+
+abbrev pub AreZero : List (List ℤ) → Type 0
+AreZero rows = (p k : ℕ) → at (table_row rows p) k ≡ pos 0
+
+-- number r of column i of a block of n columns, where row q of pairs has the rows that a table says
+abbrev pub of_pairs : ℕ → List ℤ → List (List ℕ) → ℕ → ℕ → ℤ
+of_pairs n block table i r = at block (entry_of table (r / 2) (r % 2) * n + i)
+
+-- a mean of a column that stands in order, at place n, to the nearest of 16 bits
+abbrev pub column_mean : ℕ → (ℕ → ℤ) → ℕ → ℕ → ℤ
+column_mean d c shift n = clip16 (rounded (column_sum (d + 2) (in_order d c) n) shift)
+
+-- what a pass writes: row i has the means of column i
+abbrev pub pass_mean : ℕ → List (List ℤ) → ℕ → ℕ → ℤ
+pass_mean d rows shift k = column_mean d (numbers_from rows (k / 2 ^ (d + 2)) 0) shift (k % 2 ^ (d + 2))

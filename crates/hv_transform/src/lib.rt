@@ -8,6 +8,7 @@
 mod column_sums;
 mod dot;
 mod forward_transform;
+mod inverse_passes;
 mod inverse_transform;
 mod lane_weights;
 mod lanes;
@@ -16,6 +17,7 @@ mod rows;
 mod scaling;
 #[cfg(test)]
 mod tests;
+mod weave;
 
 pub use forward_transform::forward;
 pub use inverse_transform::inverse;

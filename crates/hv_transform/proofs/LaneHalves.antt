@@ -1,9 +1,9 @@
 -- Sums of products in lanes are halves of sums over columns.
-use Rattle.std.proofs.Common.{◌≡◌, ℕ, ◌+◌, ◌-◌, ◌*◌, ◌/◌, ◌%◌, ◌^◌, ◌<◌, ◌≤◌, List, ℤ, pos, ◌+ℤ◌, ◌*ℤ◌, refl, arith, ap, ap₂, ◌∙◌, sym, subst, zero, suc, add-one}
-use Rattle.std.proofs.lemmas.Int.{ints, unsigned_abs-mul}
+use Rattle.std.proofs.Common.{◌≡◌, ℕ, ◌+◌, ◌*◌, ◌<◌, List, ℤ, ◌+ℤ◌, ◌*ℤ◌, arith, ap, ap₂, ◌∙◌, sym, zero, suc}
+use Rattle.std.proofs.lemmas.Int.{ints}
 use Rattle.hv_tables.specs.TransformMatrix.{transMatrix}
 use Rattle.hv_model.specs.Blocks.{sum_of}
-use Rattle.hv_transform.specs.Lanes.{FourLanes, in_pairs, lane_sum, weight, column_sum, odd_sum, in_order, numbers_from, two_sums, HasEven, HasOdd, ColumnSums, AreFew}
+use Rattle.hv_transform.specs.Lanes.{FourLanes, in_pairs, lane_sum, weight, column_sum, odd_sum, in_order, numbers_from, two_sums, HasEven, HasOdd, ColumnSums}
 use Rattle.hv_transform.proofs.Sums.{sum_of_same}
 use Rattle.hv_transform.proofs.FourLanes.{same_lanes, Odd}
 

@@ -18,3 +18,4 @@ pub mod LaneHalves
 pub mod Parts
 pub mod Order
 pub mod Means
+pub mod InverseLanes

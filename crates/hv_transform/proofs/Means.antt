@@ -1,7 +1,6 @@
 -- The means of sums over columns, from their lanes.
-use Rattle.std.proofs.Common.{◌≡◌, ℕ, ◌+◌, ◌-◌, ◌*◌, ◌/◌, ◌%◌, ◌^◌, ◌<◌, ◌≤◌, List, [], ◌∷◌, ◌++◌, ℤ, pos, negsuc, ◌+ℤ◌, ◌*ℤ◌, refl, arith, ap, ap₂, ◌∙◌, sym, subst, zero, suc, length, map, All, slice_index_or}
-use Rattle.std.specs.Int.{int_wrap}
-use Rattle.std.specs.Int.RustNames.{unsigned_abs, FitsSigned}
+use Rattle.std.proofs.Common.{◌≡◌, ℕ, ◌+◌, ◌-◌, ◌*◌, ◌^◌, ◌<◌, ◌≤◌, List, ◌++◌, ℤ, pos, negsuc, ◌+ℤ◌, ◌*ℤ◌, arith, ap, ap₂, ◌∙◌, sym, subst, zero, suc, length, map, All}
+use Rattle.std.specs.Int.RustNames.{unsigned_abs}
 use Rattle.std.proofs.lemmas.Int.{ints, unsigned_abs-mul, int_wrap_fits, fits_signed_from_abs}
 use Rattle.std.proofs.lemmas.Bool.{cases_lt}
 use Rattle.std.proofs.lemmas.List.{get_or_append_left, get_or-append_right, get_or-map, length-map}
@@ -18,7 +17,7 @@ use Rattle.hv_model.specs.Blocks.{sum_of, total_of}
 use Rattle.hv_model.specs.Clipping.{clip16}
 use Rattle.hv_model.specs.Quantisation.{rounded}
 use Rattle.hv_transform.specs.Passes.{HasFirst}
-use Rattle.hv_transform.specs.Lanes.{at, FourLanes, ColumnSums, HaveBits, in_pairs, column_sum, in_order, numbers_from, column_mean, pass_mean}
+use Rattle.hv_transform.specs.Lanes.{at, ColumnSums, HaveBits, column_sum, in_order, numbers_from, column_mean, pass_mean}
 use Rattle.hv_transform.proofs.FourLanes.{kept_lanes}
 use Rattle.hv_transform.proofs.LaneSteps.{passed}
 use Rattle.hv_transform.proofs.Order.{in_order_all}

@@ -1,5 +1,5 @@
 -- Columns in order: which coefficient stands where.
-use Rattle.std.proofs.Common.{◌≡◌, ℕ, ◌+◌, ◌-◌, ◌*◌, ◌/◌, ◌%◌, ◌^◌, ◌<◌, ◌≤◌, List, ℤ, pos, refl, arith, ap, ap₂, ◌∙◌, sym, subst, zero, suc, Bool, true, false, nat_eq, nat_lt, slice_index_or, length, take, drop, set, []}
+use Rattle.std.proofs.Common.{◌≡◌, ℕ, ◌+◌, ◌-◌, ◌*◌, ◌/◌, ◌%◌, ◌^◌, ◌<◌, ◌≤◌, List, ℤ, refl, arith, ap, ap₂, ◌∙◌, sym, subst, zero, suc, true, false, nat_lt, length, take, drop, set, []}
 use Rattle.std.proofs.Math.Nat.{mul-le-mul_right}
 use Rattle.std.proofs.lemmas.List.{get_or-set_same, get_or-set_other, length-set, length-take-le, length-drop}
 use Rattle.hv_transform.proofs.Places.{row_end}

@@ -1,7 +1,6 @@
 -- Lists that are written part by part, and lanes that are narrowed or woven.
-use Rattle.std.proofs.Common.{◌≡◌, ℕ, ◌+◌, ◌-◌, ◌*◌, ◌/◌, ◌%◌, ◌<◌, ◌≤◌, List, [], ◌∷◌, ◌++◌, ℤ, pos, negsuc, refl, arith, ap, ap₂, ◌∙◌, sym, subst, zero, suc, slice_index_or, length, take, drop, map, replicate, All, below_more}
-use Rattle.std.specs.Int.RustNames.{FitsSigned}
-use Rattle.std.proofs.lemmas.List.{length-take, length-take-le, length-drop, length-map, get_or-take, get_or-drop, get_or_past, get_or_append_left, get_or-append_right, get_or-map}
+use Rattle.std.proofs.Common.{◌≡◌, ℕ, ◌+◌, ◌-◌, ◌<◌, ◌≤◌, List, [], ◌∷◌, ◌++◌, ℤ, pos, negsuc, refl, arith, ap, ap₂, ◌∙◌, sym, subst, zero, suc, length, take, drop, map, replicate}
+use Rattle.std.proofs.lemmas.List.{length-take, length-take-le, length-map, get_or-take, get_or-drop, get_or_past, get_or_append_left, get_or-append_right, get_or-map}
 use Rattle.std.proofs.lemmas.Int.{ints, clamps, to_z-of_z}
 use Rattle.std.proofs.lemmas.Simd.{put_chunk_whole}
 use Rattle.std.proofs.lemmas.Bool.{cases_lt}

@@ -8,6 +8,7 @@
 mod column_sums;
 mod dot;
 mod forward_transform;
+mod inverse_lanes;
 mod inverse_passes;
 mod inverse_transform;
 mod lane_weights;

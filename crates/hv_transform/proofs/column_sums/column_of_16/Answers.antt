@@ -1,4 +1,4 @@
-use Rattle.std.proofs.Common.{arith, ℕ, ℤ, ◌+◌}
+use Rattle.std.proofs.Common.{arith, ◌+◌}
 use Rattle.hv_transform.specs.Passes.{table_row}
 use Rattle.hv_transform.specs.Lanes.{numbers_from}
 use Rattle.hv_transform.proofs.FourLanes.{low_lanes, high_lanes, bits_from, weights_below, others_from}

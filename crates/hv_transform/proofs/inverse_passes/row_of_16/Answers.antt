@@ -1,4 +1,4 @@
-use Rattle.std.proofs.Common.{◌≡◌, ◌≤◌, ◌<◌, ◌+◌, ap, ◌∙◌, arith, rules, ℕ, ℤ}
+use Rattle.std.proofs.Common.{arith, rules, ℕ, ℤ}
 use Rattle.hv_transform.specs.Lanes.{numbers_from, column_mean}
 use Rattle.hv_transform.proofs.Means.{means_more, none_yet, order_small, lanes_small, lanes_count}
 use Rattle.hv_transform.proofs.inverse_passes.row_of_16.Goals as goal

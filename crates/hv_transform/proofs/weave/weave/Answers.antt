@@ -2,7 +2,7 @@ use Rattle.std.proofs.Common.{◌≡◌, ◌<◌, ◌≤◌, ◌+◌, ◌*◌, �
 use Rattle.hv_transform.specs.Passes.{table_row}
 use Rattle.hv_transform.specs.Lanes.{in_pairs, of_pairs}
 use Rattle.hv_transform.proofs.FourLanes.{is_set}
-use Rattle.hv_transform.proofs.Order.{weave_more, pairs_of_0, pairs_are}
+use Rattle.hv_transform.proofs.Order.{weave_more, pairs_of_0}
 use Rattle.hv_transform.proofs.weave.weave.Goals as goal
 use Rattle.hv_transform.proofs.weave.weave.Goals.{then-not-this, then-not-this-via-then-not-this, then-not-this-via-else-not-this+then-first-lt8, else-not-this+else-first-lt8}
 

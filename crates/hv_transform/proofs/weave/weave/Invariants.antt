@@ -1,4 +1,4 @@
-use Rattle.std.proofs.Common.{◌≡◌, ℕ, ◌<◌, ◌≤◌, ◌*◌, ◌+◌, length}
+use Rattle.std.proofs.Common.{◌≡◌, ℕ, ◌<◌, ◌≤◌, ◌*◌, length}
 use Rattle.hv_transform.specs.Passes.{table_row}
 use Rattle.hv_transform.specs.Lanes.{in_pairs, of_pairs}
 use Rattle.hv_transform.proofs.weave.weave.Given as goal

@@ -19,3 +19,4 @@ pub mod Parts
 pub mod Order
 pub mod Means
 pub mod InverseLanes
+pub mod Corner

@@ -1,12 +1,20 @@
 -- Lists that are written part by part, and lanes that are narrowed or woven.
 use Rattle.std.proofs.Common.{◌≡◌, ℕ, ◌+◌, ◌-◌, ◌<◌, ◌≤◌, List, [], ◌∷◌, ◌++◌, ℤ, pos, negsuc, refl, arith, ap, ap₂, ◌∙◌, sym, subst, zero, suc, length, take, drop, map, replicate}
-use Rattle.std.proofs.lemmas.List.{length-take, length-take-le, length-map, get_or-take, get_or-drop, get_or_past, get_or_append_left, get_or-append_right, get_or-map}
+use Rattle.std.proofs.lemmas.List.{length-take, length-take-le, length-drop, ext_get_or, length-map, get_or-take, get_or-drop, get_or_past, get_or_append_left, get_or-append_right, get_or-map}
 use Rattle.std.proofs.lemmas.Int.{ints, clamps, to_z-of_z}
 use Rattle.std.proofs.lemmas.Simd.{put_chunk_whole}
 use Rattle.std.proofs.lemmas.Bool.{cases_lt}
 use mathlib.Core.Logic.{⊎_elim}
 use lib.ListN.{get_or}
-use lib.Lanes.{put_chunk}
+use lib.Lanes.{put_chunk, mask_l, top, zip2}
+use borrow.Rule.Simd.Lanes.{act2}
+use borrow.Table.Row.{s_int}
+use mir.Syntax.{mask, ne}
+use Rattle.std.specs.Prelude.{not}
+use Rattle.std.proofs.Common.{Bool, true, false, nat_eq, ◌%◌, cond, ◌*◌}
+use Rattle.std.proofs.lemmas.Simd.{mask_l-mod}
+use Rattle.std.proofs.lemmas.Bool.{eqb-true}
+use Rattle.std.proofs.lemmas.Bool.Decides.{nat_tests}
 use lib.Seq.{take_all}
 use borrow.Rule.Slice.PartMut.{put_mid, post_of}
 use mir.Syntax.{w16, w32}
@@ -128,3 +136,64 @@ turns xs ys l m f g (suc (suc (suc (suc (suc (suc (suc (suc (suc (suc (suc (suc 
 pub woven_is : (out xs ys : List ℤ) → length xs ≡ 8 → length ys ≡ 8 → length out ≡ 16 → Numbers xs → Numbers ys → (k : ℕ) → k < 16 → at (put_chunk 0 out (sixteen (lane_of xs ys))) k ≡ woven xs ys k
 woven_is out xs ys l m n f g k below =
     ap (λ v. at v k) (put_chunk_whole out (sixteen (lane_of xs ys)) n) ∙ turns xs ys l m f g k below
+
+abbrev marks : ℕ → List ℤ → List Bool
+marks n xs = map (top 15) (zip2 (act2 (mask ne) (s_int w16) (s_int w16) (s_int w16)) (map (of_z w16) xs) (replicate n 0))
+
+mark_is : (z : ℤ) → SFits w16 z → top 15 (act2 (mask ne) (s_int w16) (s_int w16) (s_int w16) (of_z w16 z) 0) ≡ false → z ≡ pos 0
+mark_is (pos zero) f h = refl
+mark_is (pos (suc n)) f h = grind (arith, nat_tests, h)
+mark_is (negsuc n) f h = grind (arith, nat_tests, h, f)
+
+both_0 : (b : Bool) (m : ℕ) → cond b 1 0 + 2 * m ≡ 0 → (b ≡ false) × (m ≡ 0)
+both_0 true m h = absurd (omega (arith, h))
+both_0 false m h = (refl, omega (arith, h))
+
+none_marked : (n k : ℕ) (xs : List ℤ) → length xs ≡ n → Numbers xs → mask_l (marks n xs) ≡ 0 → k < n → at xs k ≡ pos 0
+none_marked zero k xs l f h below = absurd (omega (arith, below))
+none_marked (suc n) k [] l f h below = absurd (omega arith)
+none_marked (suc n) zero (x ∷ xs) l f h below = mark_is x (f 0) (both_0 _ _ h).0
+none_marked (suc n) (suc k) (x ∷ xs) l f h below = none_marked n k xs (omega arith) (λ k. f (suc k)) (both_0 _ _ h).1 (omega (arith, below))
+
+length-marks : (n : ℕ) (xs : List ℤ) → length (marks n xs) ≤ n
+length-marks zero [] = omega arith
+length-marks zero (x ∷ xs) = omega arith
+length-marks (suc n) [] = omega arith
+length-marks (suc n) (x ∷ xs) = omega (arith, length-marks n xs)
+
+not_not : (b : Bool) → not (not b) ≡ true → b ≡ true
+not_not true h = refl
+not_not false h = h
+
+pub zeros_are : (xs : List ℤ) → length xs ≡ 8 → Numbers xs → not (not (nat_eq (mask_l (marks 8 (take 8 xs)) % 18446744073709551616) 0)) ≡ true → (k : ℕ) → k < 8 → at xs k ≡ pos 0
+zeros_are xs l f h k below =
+    let all : take 8 xs ≡ xs = take_all 8 xs (omega (arith, l)) in
+    let same : mask_l (marks 8 (take 8 xs)) % 18446744073709551616 ≡ mask_l (marks 8 xs) =
+    ap (λ v. mask_l (marks 8 v) % 18446744073709551616) all ∙ mask_l-mod (marks 8 xs) 64 (omega (arith, length-marks 8 xs)) in
+    none_marked 8 k xs l f (sym same ∙ eqb-true _ 0 (not_not _ h)) below
+
+-- a part whose numbers are 0
+pub slice_zero : (a e : ℕ) (xs : List ℤ) → a ≤ e → e ≤ length xs → ((k : ℕ) → k < length (take (e - a) (drop a xs)) → at (take (e - a) (drop a xs)) k ≡ pos 0) → (i : ℕ) → a ≤ i → i < e → at xs i ≡ pos 0
+slice_zero a e xs order inside h i low high =
+    let long : length (take (e - a) (drop a xs)) ≡ e - a = length-take-le (e - a) (drop a xs) (omega (arith, length-drop a xs, inside)) in
+    let here : a + (i - a) ≡ i = omega (arith, low) in
+    ap (at xs) (sym here) ∙ sym (at_part a (e - a) (i - a) xs (omega (arith, low, high))) ∙ h (i - a) (omega (arith, long, low, high))
+
+pub zeros_more : (a m : ℕ) (xs : List ℤ) → a + m ≤ length xs → ((k : ℕ) → k < a → at xs k ≡ pos 0) → ((k : ℕ) → k < m → at (take (a + m - a) (drop a xs)) k ≡ pos 0) → (k : ℕ) → k < a + m → at xs k ≡ pos 0
+zeros_more a m xs inside old new k below =
+    ⊎_elim
+    (λ (less : k < a). old k less)
+    (λ (more : a ≤ k).
+    slice_zero a (a + m) xs (omega arith) inside
+    (λ j small. new j (omega (arith, small, length-take (a + m - a) (drop a xs)))) k more below)
+    (cases_lt k a)
+
+pub zeros_behind : (a e : ℕ) (xs : List ℤ) → a ≤ e → length xs ≡ e → ((k : ℕ) → k < length (take (e - a) (drop a xs)) → at (take (e - a) (drop a xs)) k ≡ pos 0) → (k : ℕ) → a ≤ k → at xs k ≡ pos 0
+zeros_behind a e xs inside whole h k behind =
+    ⊎_elim
+    (λ (below : k < e). slice_zero a e xs inside (omega (arith, whole)) h k behind below)
+    (λ (past : e ≤ k). get_or_past xs k (pos 0) (omega (arith, past, whole)))
+    (cases_lt k e)
+
+pub same_list : (xs ys : List ℤ) → length ys ≡ length xs → HasFirst (length xs) (at xs) ys → ys ≡ xs
+same_list xs ys l each = ext_get_or (pos 0) ys xs l (λ k below. each k (omega (arith, below, l)))

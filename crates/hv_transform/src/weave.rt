@@ -1,5 +1,5 @@
 //! Rows of a block in pairs, as the sums in lanes take them.
-ghost use Rattle.std.specs.Prelude.{ℕ, Bool, true, ◌+◌, ◌-◌, ◌*◌, ◌/◌, ◌^◌, ◌≡◌, ◌<◌, ◌≤◌, All, length};
+ghost use Rattle.std.specs.Prelude.{ℕ, Bool, true, ◌+◌, ◌-◌, ◌*◌, ◌/◌, ◌^◌, ◌≡◌, ◌<◌, ◌≤◌, All, length, pos};
 ghost use Rattle.std.specs.Int.RustNames.{FitsSigned};
 ghost use mir.Syntax.{w16};
 ghost use Rattle.hv_transform.specs.Passes.{HasFirst};
@@ -150,6 +150,65 @@ fn weave_into<const W: usize>(first: &[i16], second: &[i16], out: &mut [i16; W])
 {
     let row = &mut out[..];
     weave_row(first, second, row);
+}
+
+/// Whether eight numbers are all 0.
+#[inline(always)]
+fn are_zero(numbers: &[i16]) -> bool
+    requires eight { length numbers.now ≡ 8 }
+    requires numbers { Numbers numbers.now }
+    ensures { result ≡ true → (k : ℕ) → k < 8 → at numbers.now k ≡ pos 0 }
+{
+    !i16x8::from_slice(numbers).simd_ne(i16x8::splat(0)).any()
+}
+
+/// Whether numbers are all 0.
+#[inline(always)]
+fn are_all_zero(numbers: &[i16]) -> bool
+    requires eights { 8 * (length numbers.now / 8) ≡ length numbers.now }
+    requires few { length numbers.now ≤ 1024 }
+    requires numbers { Numbers numbers.now }
+    ensures { result ≡ true → (k : ℕ) → k < length numbers.now → at numbers.now k ≡ pos 0 }
+{
+    for g in 0..numbers.len() / 8 {
+        if !are_zero(&numbers[8 * g..8 * g + 8]) {
+            return false;
+        }
+    }
+    true
+}
+
+/// Whether the first rows of a block of N columns are 0 behind their first eight numbers.
+#[inline(always)]
+fn are_narrow<const N: usize>(block: &[i16]) -> bool
+    requires eights { 8 * (N / 8) ≡ N }
+    requires some { 8 ≤ N }
+    requires few { N ≤ 32 }
+    requires whole { length block.now ≡ N * N }
+    requires numbers { Numbers block.now }
+    ensures { result ≡ true → (y x : ℕ) → y < 8 → 8 ≤ x → x < N → at block.now (y * N + x) ≡ pos 0 }
+{
+    for y in 0..8 {
+        if !are_all_zero(&block[y * N + 8..y * N + N]) {
+            return false;
+        }
+    }
+    true
+}
+
+/// Whether a block of N columns is 0 outside its first eight columns and rows.
+#[inline(always)]
+pub(crate) fn is_corner<const N: usize>(block: &[i16]) -> bool
+    requires eights { 8 * (N / 8) ≡ N }
+    requires some { 8 ≤ N }
+    requires few { N ≤ 32 }
+    requires whole { length block.now ≡ N * N }
+    requires numbers { Numbers block.now }
+    ensures rows { result ≡ true → IsShort N block.now }
+    ensures columns { result ≡ true →
+        (y x : ℕ) → y < 8 → 8 ≤ x → x < N → at block.now (y * N + x) ≡ pos 0 }
+{
+    are_all_zero(&block[8 * N..N * N]) && are_narrow::<N>(block)
 }
 
 /// The rows of a block of N columns in pairs, in their first columns. If the rows are few, all behind

@@ -2,6 +2,8 @@
 //! compiler turns into vector instructions as well as it can, and the writers of bits and of NAL
 //! units as `crates/hv_bits` has them; intra prediction as `crates/hv_intra` has it, and transforms
 //! as `crates/hv_transform` has them.
+mod hand;
+
 use std::env;
 use std::hint::black_box;
 use std::process::ExitCode;
@@ -62,7 +64,10 @@ fn ssd_block<const N: usize>(a: &[u8], a_stride: usize, b: &[u8], b_stride: usiz
 fn sad(a: &[u8], b: &[u8]) -> u64 {
     let parts = a.chunks(LISTED).zip(b.chunks(LISTED));
     let sum_of = |(a, b): (&[u8], &[u8])| -> u32 {
-        a.iter().zip(b).map(|(&x, &y)| absolute_difference(x, y)).sum()
+        a.iter()
+            .zip(b)
+            .map(|(&x, &y)| absolute_difference(x, y))
+            .sum()
     };
     parts.map(|part| u64::from(sum_of(part))).sum()
 }
@@ -71,7 +76,10 @@ fn sad(a: &[u8], b: &[u8]) -> u64 {
 fn ssd(a: &[u8], b: &[u8]) -> u64 {
     let parts = a.chunks(LISTED).zip(b.chunks(LISTED));
     let sum_of = |(a, b): (&[u8], &[u8])| -> u32 {
-        a.iter().zip(b).map(|(&x, &y)| squared_difference(x, y)).sum()
+        a.iter()
+            .zip(b)
+            .map(|(&x, &y)| squared_difference(x, y))
+            .sum()
     };
     parts.map(|part| u64::from(sum_of(part))).sum()
 }
@@ -125,11 +133,17 @@ fn run_ssd_block<const N: usize>(pictures: &mut Pictures, a: usize, b: usize) ->
 }
 
 fn run_sad(pictures: &mut Pictures, a: usize, b: usize) -> u64 {
-    sad(&pictures.first[a..a + LISTED], &pictures.second[b..b + LISTED])
+    sad(
+        &pictures.first[a..a + LISTED],
+        &pictures.second[b..b + LISTED],
+    )
 }
 
 fn run_ssd(pictures: &mut Pictures, a: usize, b: usize) -> u64 {
-    ssd(&pictures.first[a..a + LISTED], &pictures.second[b..b + LISTED])
+    ssd(
+        &pictures.first[a..a + LISTED],
+        &pictures.second[b..b + LISTED],
+    )
 }
 
 fn run_decimate(pictures: &mut Pictures, a: usize, b: usize) -> u64 {
@@ -228,7 +242,9 @@ fn put_fields(fields: &[Field]) -> Vec<u8> {
 
 // Whether the third byte from a place on is there, and is larger than an escaped one.
 fn third_is_large(bytes: &[u8], at: usize) -> bool {
-    bytes.get(at + 2).is_some_and(|&byte| byte > LARGEST_ESCAPED)
+    bytes
+        .get(at + 2)
+        .is_some_and(|&byte| byte > LARGEST_ESCAPED)
 }
 
 #[inline(never)]
@@ -331,7 +347,9 @@ type BitKernel = fn(&Streams) -> Vec<u8>;
 
 const BIT_KERNELS: [(&str, BitKernel); 3] = [
     ("put", |streams| put_fields(&streams.fields)),
-    ("write_nal", |streams| write_nal(NAL_UNIT_TYPE, 0, &streams.payload)),
+    ("write_nal", |streams| {
+        write_nal(NAL_UNIT_TYPE, 0, &streams.payload)
+    }),
     ("strip_nal", |streams| strip_nal(&streams.unit[4..])),
 ];
 
@@ -696,7 +714,13 @@ fn inverse(coefficients: &[i32], log2: u8, out: &mut [i16]) {
     match log2 {
         3 => inverse_of(&COLUMNS_8, coefficients, &mut [0; 64], &mut [0; 64], out),
         4 => inverse_of(&COLUMNS_16, coefficients, &mut [0; 256], &mut [0; 256], out),
-        _ => inverse_of(&COLUMNS_32, coefficients, &mut [0; 1024], &mut [0; 1024], out),
+        _ => inverse_of(
+            &COLUMNS_32,
+            coefficients,
+            &mut [0; 1024],
+            &mut [0; 1024],
+            out,
+        ),
     }
 }
 
@@ -730,41 +754,62 @@ fn forward(residual: &[i16], log2: u8, out: &mut [i32]) {
     }
 }
 
-const TRANSFORM_KERNELS: [(&str, u8); 6] = [
-    ("inverse_8", 3),
-    ("inverse_16", 4),
-    ("inverse_32", 5),
-    ("forward_8", 3),
-    ("forward_16", 4),
-    ("forward_32", 5),
+// A transform: its name, whether it is an inverse, the side, and how many columns and rows have levels.
+const TRANSFORM_KERNELS: [(&str, bool, u8, usize); 10] = [
+    ("inverse_8", true, 3, 8),
+    ("inverse_16", true, 4, 16),
+    ("inverse_32", true, 5, 32),
+    ("inverse_corner_16", true, 4, 8),
+    ("inverse_corner_32", true, 5, 8),
+    ("inverse_first_16", true, 4, 1),
+    ("inverse_first_32", true, 5, 1),
+    ("forward_8", false, 3, 8),
+    ("forward_16", false, 4, 16),
+    ("forward_32", false, 5, 32),
 ];
 
-// The levels are the residuals, scaled at quantiser 26.
-fn checksum_of_transforms(is_inverse: bool, log2: u8, rounds: usize) -> u64 {
-    let size = 1 << (2 * log2);
+// The levels are the residuals of the first columns and rows, scaled at quantiser 26.
+fn checksum_of_transforms(
+    is_inverse: bool,
+    log2: u8,
+    kept: usize,
+    by_hand: bool,
+    rounds: usize,
+) -> u64 {
+    let side = 1 << log2;
     let mut state = 5;
-    let mut residual = vec![0i16; size];
+    let mut residual = vec![0i16; side * side];
     for number in &mut residual {
         state = next(state);
         *number = i16::from((state >> 24) as u8) - 128;
     }
     let shift = log2 + 3;
-    let scaled = |&level: &i16| -> i32 {
-        let value = (i32::from(level) * (16 * 51 << 4) + (1 << (shift - 1))) >> shift;
+    let scaled = |(i, &level): (usize, &i16)| -> i32 {
+        let is_kept = i % side < kept && i / side < kept;
+        let level = if is_kept { i32::from(level) } else { 0 };
+        let value = (level * (16 * 51 << 4) + (1 << (shift - 1))) >> shift;
         value.clamp(-32768, 32767)
     };
-    let coefficients: Vec<i32> = residual.iter().map(scaled).collect();
-    let mut new_residual = vec![0i16; size];
-    let mut new_coefficients = vec![0i32; size];
+    let coefficients: Vec<i32> = residual.iter().enumerate().map(scaled).collect();
+    let mut new_residual = vec![0i16; side * side];
+    let mut new_coefficients = vec![0i32; side * side];
     let log2 = black_box(log2);
     let mut sum = 0u64;
     for _ in 0..rounds {
         for place in 0..CALLS {
             let number = if is_inverse {
-                inverse(&coefficients, log2, &mut new_residual);
+                if by_hand {
+                    hand::inverse::<true>(&coefficients, log2, &mut new_residual);
+                } else {
+                    inverse(&coefficients, log2, &mut new_residual);
+                }
                 u32::from(new_residual[place].unsigned_abs())
             } else {
-                forward(&residual, log2, &mut new_coefficients);
+                if by_hand {
+                    hand::forward(&residual, log2, &mut new_coefficients);
+                } else {
+                    forward(&residual, log2, &mut new_coefficients);
+                }
                 new_coefficients[place].unsigned_abs()
             };
             sum = sum.wrapping_add(u64::from(number));
@@ -775,8 +820,10 @@ fn checksum_of_transforms(is_inverse: bool, log2: u8, rounds: usize) -> u64 {
 
 fn main() -> ExitCode {
     let words: Vec<String> = env::args().skip(1).collect();
-    let [name, rounds] = words.as_slice() else {
-        return ExitCode::FAILURE;
+    let (name, rounds, by_hand) = match words.as_slice() {
+        [name, rounds] => (name, rounds, false),
+        [name, rounds, word] if word == "hand" => (name, rounds, true),
+        _ => return ExitCode::FAILURE,
     };
     let Ok(rounds) = rounds.parse() else {
         return ExitCode::FAILURE;
@@ -796,10 +843,10 @@ fn main() -> ExitCode {
             println!("{known} {}", checksum_of_intra(kernel, count, rounds));
         }
     }
-    for (known, log2) in TRANSFORM_KERNELS {
+    for (known, is_inverse, log2, kept) in TRANSFORM_KERNELS {
         if name == "all" || name == known {
-            let is_inverse = known.starts_with("inverse");
-            println!("{known} {}", checksum_of_transforms(is_inverse, log2, rounds));
+            let sum = checksum_of_transforms(is_inverse, log2, kept, by_hand, rounds);
+            println!("{known} {sum}");
         }
     }
     ExitCode::SUCCESS

@@ -14,7 +14,7 @@ unfolding tabulate sum_of total_of
 flat_coefficients = refl
 
 flat_levels : levels 3 32 true flat ≡ pos 3 ∷ replicate 63 (pos 0)
-unfolding tabulate sum_of total_of
+unfolding tabulate sum_of total_of levels
 flat_levels = refl
 
 flat_scaled : scaled 3 32 (pos 3) ≡ pos 1224
@@ -22,5 +22,5 @@ unfolding tabulate sum_of total_of
 flat_scaled = refl
 
 flat_again : residual 3 32 (pos 3 ∷ replicate 63 (pos 0)) ≡ flat
-unfolding tabulate sum_of total_of
+unfolding tabulate sum_of total_of residual
 flat_again = refl

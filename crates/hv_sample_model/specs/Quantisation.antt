@@ -1,5 +1,5 @@
 -- The levels that the encoder gives the residual of a transform block: a forward transform, and quantisation. H.265
--- leaves both free. Blocks stand by rows.
+-- leaves both free. Functions over places, column and row, and the lists by rows that are made from them.
 use Rattle.std.specs.Prelude.{ℕ, ◌+◌, ◌-◌, ◌*◌, ◌/◌, ◌^◌, Bool, cond, List, map, ℤ, pos, neg_ℤ, ◌+ℤ◌, ◌*ℤ◌}
 use Rattle.std.specs.Int.{int_shr, is_negative}
 use Rattle.std.specs.Int.RustNames.{unsigned_abs}
@@ -12,22 +12,22 @@ use Rattle.hv_sample_model.specs.Blocks.{square, at_place, sum_of}
 abbrev pub rounded : ℤ → ℕ → ℤ
 rounded z shift = int_shr (z +ℤ pos (2 ^ (shift - 1))) shift
 
--- The rows first: frequency u of row y.
-abbrev pub row_coefficient : ℕ → List ℤ → ℕ → ℕ → ℤ
-row_coefficient log2 residuals u y =
+-- The rows first: frequency u of row y. The residual sample in column x of row y is `sample x y`.
+abbrev pub row_coefficient : ℕ → (ℕ → ℕ → ℤ) → ℕ → ℕ → ℤ
+row_coefficient log2 sample u y =
     rounded
-    (sum_of (2 ^ log2) (λ x. transMatrix log2 u x *ℤ at_place log2 residuals x y))
+    (sum_of (2 ^ log2) (λ x. transMatrix log2 u x *ℤ sample x y))
     (log2 - 1)
 
 -- Then the columns: the coefficient in column u of row v.
-abbrev pub coefficient : ℕ → List ℤ → ℕ → ℕ → ℤ
-coefficient log2 residuals u v =
+abbrev pub coefficient : ℕ → (ℕ → ℕ → ℤ) → ℕ → ℕ → ℤ
+coefficient log2 sample u v =
     rounded
-    (sum_of (2 ^ log2) (λ y. transMatrix log2 v y *ℤ row_coefficient log2 residuals u y))
+    (sum_of (2 ^ log2) (λ y. transMatrix log2 v y *ℤ row_coefficient log2 sample u y))
     (log2 + 6)
 
 abbrev pub transformed : ℕ → List ℤ → List ℤ
-transformed log2 residuals = square log2 (coefficient log2 residuals)
+transformed log2 residuals = square log2 (coefficient log2 (at_place log2 residuals))
 
 -- what is added before the last division, in 512ths of a level: a third in intra units, a sixth in inter units
 abbrev pub offset_of_kind : Bool → ℕ
@@ -47,5 +47,5 @@ quantised log2 qp is_intra c =
     ((unsigned_abs c * quantisation_factor qp + offset_of_kind is_intra * 2 ^ (shift - 9)) / 2 ^ shift))
 
 -- the levels of a block of residuals
-abbrev pub levels : ℕ → ℕ → Bool → List ℤ → List ℤ
+unfoldable pub levels : ℕ → ℕ → Bool → List ℤ → List ℤ
 levels log2 qp is_intra residuals = map (quantised log2 qp is_intra) (transformed log2 residuals)

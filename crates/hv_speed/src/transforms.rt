@@ -34,19 +34,34 @@ fn put_noise(out: &mut [i16])
     }
 }
 
+/// Keeps the first numbers of the first rows of a block of so many columns: `kept` of each.
+fn keep_first(block: &mut [i16], columns: usize, kept: usize)
+    requires { 0 < columns }
+{
+    for i in 0..block.len() {
+        if i % columns >= kept || i / columns >= kept {
+            block[i] = 0;
+        }
+    }
+}
+
 impl Block {
-    /// A block of 2^log2 columns, which has `size` members.
-    pub fn new(alloc: Global, log2: u8, size: usize) -> Result<Block, AllocError>
+    /// A block of 2^log2 columns, which has `size` members. The levels behind the first columns and
+    /// rows are 0: `kept` of each have others.
+    pub fn new(alloc: Global, log2: u8, size: usize, kept: usize) -> Result<Block, AllocError>
         requires least { 2 ≤ log2 }
         requires greatest { log2 ≤ 5 }
         requires size { size ≡ 4 ^ log2 }
     {
         let mut residual = vec![in alloc; 0i16; size]?;
+        let mut levels = vec![in alloc; 0i16; size]?;
         let mut coefficients = vec![in alloc; 0i32; size]?;
         let new_residual = vec![in alloc; 0i16; size]?;
         let new_coefficients = vec![in alloc; 0i32; size]?;
         put_noise(&mut residual);
-        scale(&residual, log2, 26, &mut coefficients);
+        put_noise(&mut levels);
+        keep_first(&mut levels, 1 << log2, kept);
+        scale(&levels, log2, 26, &mut coefficients);
         Ok(Block {
             log2,
             residual,
@@ -62,6 +77,10 @@ pub enum TransformKernel {
     Inverse8,
     Inverse16,
     Inverse32,
+    InverseCorner16,
+    InverseCorner32,
+    InverseFirst16,
+    InverseFirst32,
     Forward8,
     Forward16,
     Forward32,
@@ -69,10 +88,14 @@ pub enum TransformKernel {
 
 impl TransformKernel {
     /// All kernels, in the order in which they are run.
-    pub const ALL: [TransformKernel; 6] = [
+    pub const ALL: [TransformKernel; 10] = [
         TransformKernel::Inverse8,
         TransformKernel::Inverse16,
         TransformKernel::Inverse32,
+        TransformKernel::InverseCorner16,
+        TransformKernel::InverseCorner32,
+        TransformKernel::InverseFirst16,
+        TransformKernel::InverseFirst32,
         TransformKernel::Forward8,
         TransformKernel::Forward16,
         TransformKernel::Forward32,
@@ -84,6 +107,10 @@ impl TransformKernel {
             TransformKernel::Inverse8 => "inverse_8",
             TransformKernel::Inverse16 => "inverse_16",
             TransformKernel::Inverse32 => "inverse_32",
+            TransformKernel::InverseCorner16 => "inverse_corner_16",
+            TransformKernel::InverseCorner32 => "inverse_corner_32",
+            TransformKernel::InverseFirst16 => "inverse_first_16",
+            TransformKernel::InverseFirst32 => "inverse_first_32",
             TransformKernel::Forward8 => "forward_8",
             TransformKernel::Forward16 => "forward_16",
             TransformKernel::Forward32 => "forward_32",
@@ -103,9 +130,17 @@ impl TransformKernel {
     /// The block that the kernel goes over.
     pub fn block(self, alloc: Global) -> Result<Block, AllocError> {
         match self {
-            TransformKernel::Inverse8 | TransformKernel::Forward8 => Block::new(alloc, 3, 64),
-            TransformKernel::Inverse16 | TransformKernel::Forward16 => Block::new(alloc, 4, 256),
-            TransformKernel::Inverse32 | TransformKernel::Forward32 => Block::new(alloc, 5, 1024),
+            TransformKernel::Inverse8 | TransformKernel::Forward8 => Block::new(alloc, 3, 64, 8),
+            TransformKernel::Inverse16 | TransformKernel::Forward16 => Block::new(
+                alloc, 4, 256, 16,
+            ),
+            TransformKernel::Inverse32 | TransformKernel::Forward32 => Block::new(
+                alloc, 5, 1024, 32,
+            ),
+            TransformKernel::InverseCorner16 => Block::new(alloc, 4, 256, 8),
+            TransformKernel::InverseCorner32 => Block::new(alloc, 5, 1024, 8),
+            TransformKernel::InverseFirst16 => Block::new(alloc, 4, 256, 1),
+            TransformKernel::InverseFirst32 => Block::new(alloc, 5, 1024, 1),
         }
     }
 
@@ -114,16 +149,16 @@ impl TransformKernel {
         requires { place < 64 }
     {
         match self {
-            TransformKernel::Inverse8 | TransformKernel::Inverse16 | TransformKernel::Inverse32 => {
-                inverse(&block.coefficients, block.log2, &mut block.new_residual);
-                match block.new_residual.get(place) {
+            TransformKernel::Forward8 | TransformKernel::Forward16 | TransformKernel::Forward32 => {
+                forward(&block.residual, block.log2, &mut block.new_coefficients);
+                match block.new_coefficients.get(place) {
                     Some(number) => u64::from(number.unsigned_abs()),
                     None => 0,
                 }
             }
-            TransformKernel::Forward8 | TransformKernel::Forward16 | TransformKernel::Forward32 => {
-                forward(&block.residual, block.log2, &mut block.new_coefficients);
-                match block.new_coefficients.get(place) {
+            _ => {
+                inverse(&block.coefficients, block.log2, &mut block.new_residual);
+                match block.new_residual.get(place) {
                     Some(number) => u64::from(number.unsigned_abs()),
                     None => 0,
                 }

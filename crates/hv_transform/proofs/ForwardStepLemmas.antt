@@ -23,7 +23,7 @@ pub record ForwardSteps (n log2 : ℕ) (rows : List (List ℤ)) (residual halfwa
   pub second : HasFirst (n * n) (λ k. rounded (table_by_block n rows halfway k) (log2 + 6)) coefficients
   pub whole : length coefficients ≡ n * n
 
-row_coefficients : (log2 : ℕ) (rows : List (List ℤ)) (residual halfway coefficients : List ℤ) → ForwardSteps (2 ^ log2) log2 rows residual halfway coefficients → (u y : ℕ) → u < 2 ^ log2 → y < 2 ^ log2 → slice_index_or halfway (u * 2 ^ log2 + y) (pos 0) ≡ row_coefficient log2 residual u y
+row_coefficients : (log2 : ℕ) (rows : List (List ℤ)) (residual halfway coefficients : List ℤ) → ForwardSteps (2 ^ log2) log2 rows residual halfway coefficients → (u y : ℕ) → u < 2 ^ log2 → y < 2 ^ log2 → slice_index_or halfway (u * 2 ^ log2 + y) (pos 0) ≡ row_coefficient log2 (at_place log2 residual) u y
 row_coefficients log2 rows residual halfway coefficients steps u y down across =
     let n : ℕ = 2 ^ log2 in
     let sum : dot_of n (table_row rows u) (row_of n residual y) ≡ sum_of n (λ x. transMatrix log2 u x *ℤ at_place log2 residual x y) =
@@ -37,14 +37,14 @@ coefficients_are : (log2 : ℕ) (rows : List (List ℤ)) (residual halfway coeff
 coefficients_are log2 rows residual halfway coefficients steps =
     let n : ℕ = 2 ^ log2 in
     let some : 0 < n = pow_pos log2 in
-    square_is log2 (coefficient log2 residual) coefficients steps.whole
+    square_is log2 (coefficient log2 (at_place log2 residual)) coefficients steps.whole
     (λ k below.
     let u : ℕ = k % n in
     let v : ℕ = k / n in
     let across : u < n = column_below n k some in
     let down : v < n = row_below n k some below in
-    let sum : dot_of n (table_row rows v) (row_of n halfway u) ≡ sum_of n (λ y. transMatrix log2 v y *ℤ row_coefficient log2 residual u y) =
-    dot_of_numbers n (table_row rows v) (row_of n halfway u) (λ y. transMatrix log2 v y) (λ y. row_coefficient log2 residual u y)
+    let sum : dot_of n (table_row rows v) (row_of n halfway u) ≡ sum_of n (λ y. transMatrix log2 v y *ℤ row_coefficient log2 (at_place log2 residual) u y) =
+    dot_of_numbers n (table_row rows v) (row_of n halfway u) (λ y. transMatrix log2 v y) (λ y. row_coefficient log2 (at_place log2 residual) u y)
     (λ y less. steps.entries.each v y down less)
     (λ y less. number_of_row n u y halfway less ∙ row_coefficients log2 rows residual halfway coefficients steps u y across less) in
     steps.second k below ∙ ap (λ s. rounded s (log2 + 6)) sum)

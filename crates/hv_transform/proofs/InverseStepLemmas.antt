@@ -20,7 +20,7 @@ pub record InverseSteps (n log2 : ℕ) (columns : List (List ℤ)) (coefficients
   pub third : HasFirst (n * n) (λ k. rounded (block_by_table n columns halfway k) 12) residual
   pub whole : length residual ≡ n * n
 
-column_samples : (log2 : ℕ) (columns : List (List ℤ)) (coefficients by_columns halfway residual : List ℤ) → InverseSteps (2 ^ log2) log2 columns coefficients by_columns halfway residual → (y x : ℕ) → y < 2 ^ log2 → x < 2 ^ log2 → slice_index_or halfway (y * 2 ^ log2 + x) (pos 0) ≡ column_sample log2 coefficients x y
+column_samples : (log2 : ℕ) (columns : List (List ℤ)) (coefficients by_columns halfway residual : List ℤ) → InverseSteps (2 ^ log2) log2 columns coefficients by_columns halfway residual → (y x : ℕ) → y < 2 ^ log2 → x < 2 ^ log2 → slice_index_or halfway (y * 2 ^ log2 + x) (pos 0) ≡ column_sample log2 (at_place log2 coefficients) x y
 column_samples log2 columns coefficients by_columns halfway residual steps y x down across =
     let n : ℕ = 2 ^ log2 in
     let sum : dot_of n (table_row columns y) (row_of n by_columns x) ≡ sum_of n (λ v. transMatrix log2 v y *ℤ at_place log2 coefficients x v) =
@@ -35,14 +35,14 @@ samples : (log2 : ℕ) (columns : List (List ℤ)) (coefficients by_columns half
 samples log2 columns coefficients by_columns halfway residual steps =
     let n : ℕ = 2 ^ log2 in
     let some : 0 < n = pow_pos log2 in
-    square_is log2 (inverse_sample log2 coefficients) residual steps.whole
+    square_is log2 (inverse_sample log2 (at_place log2 coefficients)) residual steps.whole
     (λ k below.
     let x : ℕ = k % n in
     let y : ℕ = k / n in
     let across : x < n = column_below n k some in
     let down : y < n = row_below n k some below in
-    let sum : dot_of n (table_row columns x) (row_of n halfway y) ≡ sum_of n (λ u. transMatrix log2 u x *ℤ column_sample log2 coefficients u y) =
-    dot_of_numbers n (table_row columns x) (row_of n halfway y) (λ u. transMatrix log2 u x) (λ u. column_sample log2 coefficients u y)
+    let sum : dot_of n (table_row columns x) (row_of n halfway y) ≡ sum_of n (λ u. transMatrix log2 u x *ℤ column_sample log2 (at_place log2 coefficients) u y) =
+    dot_of_numbers n (table_row columns x) (row_of n halfway y) (λ u. transMatrix log2 u x) (λ u. column_sample log2 (at_place log2 coefficients) u y)
     (λ u less. steps.entries.each x u across less)
     (λ u less. number_of_row n y u halfway less ∙ column_samples log2 columns coefficients by_columns halfway residual steps y u down less) in
     steps.third k below ∙ ap (λ s. rounded s 12) sum)

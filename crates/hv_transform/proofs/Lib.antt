@@ -8,3 +8,15 @@ pub mod SizeLemmas
 pub mod ForwardStepLemmas
 pub mod PowerLemmas
 pub mod ListLemmas
+pub mod LaneSumLemmas
+pub mod LaneStepLemmas
+pub mod LaneProductLemmas
+pub mod TableLemmas
+pub mod HalfLemmas
+pub mod FourLaneLemmas
+pub mod LaneHalfLemmas
+pub mod PartLemmas
+pub mod OrderLemmas
+pub mod MeanLemmas
+pub mod InverseLaneLemmas
+pub mod CornerLemmas

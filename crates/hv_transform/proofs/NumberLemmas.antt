@@ -11,6 +11,7 @@ use mir.Val.{to_z, of_z}
 use Rattle.hv_sample_model.specs.Blocks.{sum_of, total_of}
 use Rattle.hv_lemmas.specs.Clipping.{clip16}
 use Rattle.hv_sample_model.specs.Quantisation.{rounded}
+use Rattle.hv_lemmas.proofs.SignedLemmas.{size_of_sum}
 use Rattle.hv_transform.specs.Rows.{dot_of, row_of}
 use Rattle.hv_transform.specs.Passes.{AreWithin}
 use Rattle.hv_transform.proofs.PlaceLemmas.{number_of_row, place_inside}
@@ -21,9 +22,6 @@ narrowed z narrow wide = ap (λ z. to_z w16 (of_z w16 z)) (to_z-of_z w32 z wide)
 
 pub size_of_clipped : (z : ℤ) → unsigned_abs (clip16 z) ≤ 32768
 size_of_clipped z = omega (arith, ints, clamps)
-
-size_of_sum : (a b : ℤ) → unsigned_abs (a +ℤ b) ≤ unsigned_abs a + unsigned_abs b
-size_of_sum a b = omega (arith, ints)
 
 -- a sum of products, where no number is greater than `most`
 pub size_of_dot : (n most : ℕ) (entries numbers : List ℤ) → ((x : ℕ) → x < n → unsigned_abs (slice_index_or numbers x (pos 0)) ≤ most) → unsigned_abs (dot_of n entries numbers) ≤ total_of n (λ x. unsigned_abs (slice_index_or entries x (pos 0))) * most

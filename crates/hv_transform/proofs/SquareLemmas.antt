@@ -4,15 +4,11 @@ use Rattle.std.specs.List.{flat_map}
 use Rattle.std.proofs.lemmas.List.{get_or_append_left, get_or-append_right, ext_get_or}
 use Rattle.std.proofs.lemmas.Nat.{pow_pos}
 use Rattle.std.proofs.Math.Nat.{add-mul, div-lt_iff_lt-mul, mod-add-div'}
+use Rattle.hv_lemmas.proofs.ListLemmas.{length-tabulate}
 use Rattle.hv_lemmas.specs.Lists.{tabulate}
 use Rattle.hv_sample_model.specs.Blocks.{square}
 use Rattle.hv_transform.specs.Passes.{HasFirst}
 use Rattle.hv_transform.proofs.PlaceLemmas.{place_inside, row_of_place, column_of_place}
-
-length-tabulate : {A : Type 0} (n : ℕ) (f : ℕ → A) → length (tabulate n f) ≡ n
-unfolding tabulate
-length-tabulate zero f = refl
-length-tabulate (suc n) f = ap suc (length-tabulate n (λ i. f (suc i)))
 
 get_or-tabulate : (n i : ℕ) (f : ℕ → ℤ) → i < n → get_or (tabulate n f) i (pos 0) ≡ f i
 unfolding tabulate

@@ -11,7 +11,7 @@ pub dot_of_more : (n : ℕ) (entries numbers : List ℤ) → dot_of (n + 1) entr
 unfolding dot_of sum_of
 dot_of_more n entries numbers = rw (add-one) refl
 
-sum_of_same : (n : ℕ) (f g : ℕ → ℤ) → ((i : ℕ) → i < n → f i ≡ g i) → sum_of n f ≡ sum_of n g
+pub sum_of_same : (n : ℕ) (f g : ℕ → ℤ) → ((i : ℕ) → i < n → f i ≡ g i) → sum_of n f ≡ sum_of n g
 unfolding sum_of
 sum_of_same zero f g same = refl
 sum_of_same (suc n) f g same =

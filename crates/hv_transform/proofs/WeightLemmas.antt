@@ -2,25 +2,12 @@
 use Rattle.std.proofs.Common.{◌≡◌, ℕ, zero, suc, ◌+◌, ◌*◌, ◌^◌, ◌<◌, ◌≤◌, Bool, true, false, ◌&&◌, List, ℤ, pos, refl, sym, subst, ap, ap₂, arith, below_more, nat_le, slice_index_or}
 use Rattle.std.specs.Int.RustNames.{unsigned_abs}
 use Rattle.std.proofs.lemmas.Bool.{leb-true}
+use Rattle.std.proofs.lemmas.Bool.{and_parts}
+use Rattle.hv_lemmas.proofs.ComputedLemmas.{all_below, holds_below}
 use Rattle.hv_tables.specs.TransformMatrix.{transMatrix}
 use Rattle.hv_tables.specs.Tables.{HasEntries}
 use Rattle.hv_transform.specs.Passes.{WeighAtMost, table_row}
 use Rattle.hv_sample_model.specs.Blocks.{total_of}
-
-abbrev all_below : ℕ → (ℕ → Bool) → Bool
-all_below zero p = true
-all_below (suc n) p = p n && all_below n p
-
-both : (a b : Bool) → a && b ≡ true → (a ≡ true) × (b ≡ true)
-both true b h = (refl, h)
-both false b h = absurd cc
-
-all_at : (n : ℕ) (p : ℕ → Bool) → all_below n p ≡ true → (i : ℕ) → i < n → p i ≡ true
-all_at zero p h i below = absurd (omega arith)
-all_at (suc n) p h i below =
-    let parts : (p n ≡ true) × (all_below n p ≡ true) = both (p n) (all_below n p) h in
-    let Holds : ℕ → Type 0 = λ k. p k ≡ true in
-    below_more Holds n (λ k less. all_at n p parts.1 k less) parts.0 i (omega arith)
 
 abbrev pub row_weight : ℕ → ℕ → ℕ
 row_weight log2 k = total_of (2 ^ log2) (λ n. unsigned_abs (transMatrix log2 k n))
@@ -58,7 +45,7 @@ all_light (suc (suc (suc (suc (suc (suc m)))))) least greatest = absurd (omega a
 
 pub light : (log2 i : ℕ) → 2 ≤ log2 → log2 ≤ 5 → i < 2 ^ log2 → (row_weight log2 i ≤ 64 * 2 ^ log2) × (column_weight log2 i ≤ 2048)
 light log2 i least greatest inside =
-    let parts = both _ _ (all_at (2 ^ log2) (λ i. nat_le (row_weight log2 i) (64 * 2 ^ log2) && nat_le (column_weight log2 i) 2048) (all_light log2 least greatest) i inside) in
+    let parts = and_parts _ _ (holds_below (2 ^ log2) (λ i. nat_le (row_weight log2 i) (64 * 2 ^ log2) && nat_le (column_weight log2 i) 2048) (all_light log2 least greatest) i inside) in
     (leb-true _ _ parts.0, leb-true _ _ parts.1)
 
 total_of_same : (n : ℕ) (f g : ℕ → ℕ) → ((i : ℕ) → i < n → f i ≡ g i) → total_of n f ≡ total_of n g

@@ -1,3 +1,4 @@
 pub mod Rows
 pub mod Ranges
 pub mod Passes
+pub mod Lanes

@@ -1,5 +1,5 @@
 -- How great the numbers of a block may be.
-use Rattle.std.specs.Prelude.{◌≤◌, List, All, ℤ}
+use Rattle.std.specs.Prelude.{◌≤◌, List, All, ℤ, Bool, nat_lt}
 use Rattle.std.specs.Int.RustNames.{FitsSigned, unsigned_abs}
 use mir.Syntax.{w16}
 
@@ -10,3 +10,6 @@ Have16Bits numbers = All (FitsSigned w16) numbers
 -- each is a difference of two samples of 8 bits
 abbrev pub AreDifferences : List ℤ → Type 0
 AreDifferences numbers = All (λ z. unsigned_abs z ≤ 255) numbers
+
+abbrev pub is_other_than_0 : ℤ → Bool
+is_other_than_0 z = nat_lt 0 (unsigned_abs z)

@@ -9,8 +9,9 @@ ghost use Rattle.hv_transform.specs.Passes.{HasFirst, AreWithin, WeighAtMost, tu
 ghost use Rattle.hv_transform.specs.Ranges.{Have16Bits};
 
 use crate::dot::{mean, narrow_mean};
+use crate::inverse_lanes::{inverse_8, inverse_16, inverse_32};
 use crate::rows::{clipped, row};
-use hv_tables::{matrix_columns_4, matrix_columns_8, matrix_columns_16, matrix_columns_32};
+use hv_tables::matrix_columns_4;
 
 /// Writes the columns of a block as rows.
 #[inline(always)]
@@ -105,8 +106,8 @@ pub fn inverse(coefficients: &[i32], log2: u8, out: &mut [i16])
 {
     match log2 {
         2 => inverse_of::<4, 16>(matrix_columns_4(), coefficients, log2, out),
-        3 => inverse_of::<8, 64>(matrix_columns_8(), coefficients, log2, out),
-        4 => inverse_of::<16, 256>(matrix_columns_16(), coefficients, log2, out),
-        _ => inverse_of::<32, 1024>(matrix_columns_32(), coefficients, log2, out),
+        3 => inverse_8(coefficients, out),
+        4 => inverse_16(coefficients, out),
+        _ => inverse_32(coefficients, out),
     }
 }

@@ -5,14 +5,20 @@
 //! residual by `forward` and then `quantise`. None of them takes memory, and each always answers.
 #![tactic(auto)]
 
+mod column_sums;
 mod dot;
 mod forward_transform;
+mod inverse_lanes;
+mod inverse_passes;
 mod inverse_transform;
+mod lane_weights;
+mod lanes;
 mod laws;
 mod rows;
 mod scaling;
 #[cfg(test)]
 mod tests;
+mod weave;
 
 pub use forward_transform::forward;
 pub use inverse_transform::inverse;

@@ -1,11 +1,12 @@
 //! Scaling (8.6.3), and the encoder's quantisation, number by number.
 ghost use Rattle.std.specs.Prelude.{◌≡◌, ◌+◌, ◌-◌, ◌*◌, ◌/◌, ◌^◌, ◌<◌, ◌≤◌, length, map, pos, ◌*ℤ◌};
+ghost use Rattle.std.specs.List.{list_any};
 ghost use Rattle.std.specs.Int.RustNames.{unsigned_abs};
 ghost use Rattle.hv_lemmas.specs.Clipping.{clip16};
 ghost use Rattle.hv_sample_model.specs.InverseTransform.{scaled};
 ghost use Rattle.hv_sample_model.specs.Quantisation.{quantised, rounded, with_sign_of, offset_of_kind};
 ghost use Rattle.hv_tables.specs.Quantisers.{levelScale};
-ghost use Rattle.hv_transform.specs.Ranges.{Have16Bits};
+ghost use Rattle.hv_transform.specs.Ranges.{Have16Bits, is_other_than_0};
 
 use hv_tables::{level_scale, quantisation_factor};
 
@@ -128,23 +129,36 @@ fn offset_of(intra: bool, shift: u32) -> u32
     offset_of_kind(intra) << (shift - 9)
 }
 
+/// Whether a level isn't 0.
+#[inline(always)]
+fn is_other_than_0(level: i16) -> bool
+    ensures { result ≡ is_other_than_0 level }
+{
+    level != 0
+}
+
 /// The levels of a block of transform coefficients, as the encoder chooses them.
 ///
 /// `coefficients` are those of a block of 2^log2 columns, log2 is 2 to 5, and each has 16 bits. `qp`
 /// is the quantiser of its component, 0 to 51, and `intra` tells whether its unit is intra. `out` has
-/// as many members.
-pub fn quantise(coefficients: &[i32], log2: u8, qp: u8, intra: bool, out: &mut [i16])
+/// as many members. The answer is whether a level isn't 0.
+pub fn quantise(coefficients: &[i32], log2: u8, qp: u8, intra: bool, out: &mut [i16]) -> bool
     requires least { 2 ≤ log2 }
     requires greatest { log2 ≤ 5 }
     requires quantiser { qp ≤ 51 }
     requires range { Have16Bits coefficients.now }
     requires room { length out.old ≡ length coefficients.now }
-    ensures { out.new ≡ map (quantised log2 qp intra) coefficients.now }
+    ensures value { out.new ≡ map (quantised log2 qp intra) coefficients.now }
+    ensures some { result ≡ list_any is_other_than_0 out.new }
 {
     let shift = u32::from(21 + qp / 6 - log2);
     let factor = u32::from(quantisation_factor(qp));
     let offset = offset_of(intra, shift);
+    let mut is_some = false;
     for i in 0..out.len() {
-        out[i] = quantised_by(coefficients[i], factor, offset, shift);
+        let level = quantised_by(coefficients[i], factor, offset, shift);
+        out[i] = level;
+        is_some = is_some | is_other_than_0(level);
     }
+    is_some
 }

@@ -34,7 +34,7 @@ fn flat_block(rt: HostRuntime) {
     let mut residual = [7i16; 64];
     forward(&[10; 64], 3, &mut coefficients);
     assert_eq!(rt; coefficients[0], 1280);
-    quantise(&coefficients, 3, 32, true, &mut levels);
+    assert!(rt; quantise(&coefficients, 3, 32, true, &mut levels));
     assert_eq!(rt; levels[0], 3);
     for i in 1..64usize {
         assert_eq!(rt; levels[i], 0, "at {i}");
@@ -147,6 +147,16 @@ fn extreme_levels(rt: HostRuntime) {
     scale(&[32767, -32768, 1, -1], 2, 51, &mut scaled);
     assert_eq!(rt; scaled.as_slice(), [32767, -32768, 7296, -7296].as_slice());
     let mut levels = [0i16; 4];
-    quantise(&scaled, 5, 0, true, &mut levels);
+    assert!(rt; quantise(&scaled, 5, 0, true, &mut levels));
     assert_eq!(rt; levels.as_slice(), [13106, -13107, 2918, -2918].as_slice());
+}
+
+/// A coefficient of a unit that isn't intra has the level 1 from five sixths of a step on.
+#[test]
+fn levels_of_0(rt: HostRuntime) {
+    let mut levels = [7i16; 4];
+    assert!(rt; !quantise(&[0, 340, -340, 0], 3, 32, false, &mut levels));
+    assert_eq!(rt; levels.as_slice(), [0; 4].as_slice());
+    assert!(rt; quantise(&[0, 341, -340, 0], 3, 32, false, &mut levels));
+    assert_eq!(rt; levels.as_slice(), [0, 1, 0, 0].as_slice());
 }

@@ -12,7 +12,7 @@ use crate::parameters::parameter_sets;
 use crate::transfer::{fill, write_all};
 use hv_decision::{Group, Structure};
 use hv_packet::picture_unit;
-use hv_types::{Config, Failed, GroupInput, NoMemory, Sink, Source};
+use hv_types::{Config, Failed, GroupInput, MOST_PICTURES, NoMemory, Sink, Source};
 use std::alloc::Global;
 
 /// What was encoded.
@@ -40,9 +40,6 @@ pub enum EncodeError {
     /// The input goes on behind the last picture that a video may have.
     TooLong,
 }
-
-/// The pictures that a video may have.
-const MOST_PICTURES: u32 = 400_000;
 
 /// Reads pictures until the input ends, and encodes and writes each before the next one is read. No
 /// read asks for more than the picture still lacks, and after the last picture that a video may

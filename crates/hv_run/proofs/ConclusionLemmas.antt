@@ -1,23 +1,18 @@
 -- What each status says, from how the encoding ended and what was reported.
-use Rattle.std.proofs.Common.{◌≡◌, ◌&&◌, ℕ, ◌+◌, ◌*◌, ◌/◌, ◌%◌, ◌<◌, ◌≤◌, Bool, true, false, cond, List, length, refl, sym, ap, subst, ◌∙◌, inl, inr, arith, length-drop}
-use Rattle.std.specs.Prelude.{Option, Some, None, nat_lt, nat_eq, Err}
+use Rattle.std.proofs.Common.{◌≡◌, ℕ, ◌+◌, ◌*◌, ◌/◌, ◌%◌, ◌<◌, ◌≤◌, Bool, true, false, List, length, refl, sym, ap, subst, ◌∙◌, inl, inr, arith, length-drop}
+use Rattle.std.specs.Prelude.{Option, Some, nat_eq, Err}
 use Rattle.std.proofs.lemmas.Nat.{div-add-mod', mul-le}
 use Rattle.std.proofs.Math.Nat.{lt-div-mul-add}
 use Rattle.std.proofs.lemmas.Bool.Decides.{nat_tests}
 use Rattle.hv_lemmas.proofs.ComparisonLemmas.{lt_below, lt_not_below}
 use Rattle.hv_lemmas.proofs.OptionLemmas.{some_same}
 use Rattle.hv_types.specs.declared.settings.Settings.{Settings}
-use Rattle.hv_types.specs.declared.settings.Emit.{Emit}
-use Rattle.hv_types.specs.declared.settings.Emit.TheVariants.{Stream, Recon}
-use Rattle.hv_types.specs.declared.settings.ConfigError.{ConfigError}
 use Rattle.hv_types.specs.declared.picture.Picture.{Picture}
-use Rattle.hv_types.specs.Configuration.{fault_of, picture_bytes}
+use Rattle.hv_types.specs.Configuration.{most_pictures, picture_bytes}
 use Rattle.hv_types.specs.Outside.{Rises}
-use Rattle.hv_types.proofs.ConfigurationLemmas.{valid, picture_bytes-least}
+use Rattle.hv_types.proofs.ConfigurationLemmas.{picture_bytes-least}
 use Rattle.hv_lemmas.proofs.ListLemmas.{length-tabulate}
-use Rattle.hv_model.specs.Built.{IsBuilt, is_built}
-use Rattle.hv_model.proofs.RoundTripLemmas.{built_decided}
-use Rattle.hv_words.specs.declared.words.WordsError.TheVariants.{NotBuilt}
+use Rattle.hv_model.specs.Built.{IsBuilt}
 use Rattle.hv_serial.specs.declared.encode.Totals.{Totals}
 use Rattle.hv_serial.specs.declared.encode.EncodeError.{EncodeError}
 use Rattle.hv_serial.specs.declared.encode.EncodeError.TheVariants as error
@@ -26,7 +21,7 @@ use Rattle.hv_run.specs.declared.status.Status.TheVariants.{Ok, Words, ReadFault
 use Rattle.hv_words.specs.CommandLine.{AsksFor}
 use Rattle.hv_words.proofs.AcceptanceLemmas.{same_settings}
 use Rattle.hv_serial.specs.Transfers.{Drawn, Put, Grows, PutsPart}
-use Rattle.hv_serial.specs.Outcomes.{most_pictures, pictures_in, rest_in, group_count, WroteGroups, IsReadToEnd, EndsWithin, GoesOn}
+use Rattle.hv_serial.specs.Outcomes.{pictures_in, rest_in, group_count, WroteGroups, IsReadToEnd, EndsWithin, GoesOn}
 use Rattle.hv_serial.specs.Endings.{BothTold, Ends, EndsOk, AreTotals}
 use Rattle.hv_run.specs.Report.{Reports, encoded_line, error_line, totals_line, line_of}
 use Rattle.hv_run.specs.Statuses.{is_whole, is_of_input, fixed_line, status_of, Concludes, ConcludedOk, ConcludedReportFault, due, status_due, IsDue}

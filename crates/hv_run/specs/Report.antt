@@ -1,5 +1,5 @@
 -- The lines of the report.
-use Rattle.std.specs.Prelude.{◌≡◌, ◌⊎◌, ℕ, List, ◌++◌, length, Option, codes, decimal}
+use Rattle.std.specs.Prelude.{◌≡◌, ◌⊎◌, ℕ, List, ◌++◌, length, codes, decimal}
 use Rattle.hv_types.specs.declared.settings.Settings.{Settings}
 use Rattle.hv_types.specs.declared.settings.ConfigError.{ConfigError}
 use Rattle.hv_types.specs.declared.settings.ConfigError.TheVariants.{OddSize, SizeRange, GroupTooLarge, OutOfRange}

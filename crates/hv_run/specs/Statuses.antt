@@ -1,13 +1,12 @@
 -- The statuses of the top call: what each says of input, output and report.
 use Rattle.std.specs.Prelude.{◌≡◌, ◌⊎◌, ℕ, ◌*◌, ◌%◌, Bool, true, false, nat_lt, nat_eq, List, Option, Some, None}
 use Rattle.hv_types.specs.declared.settings.Settings.{Settings}
-use Rattle.hv_types.specs.Configuration.{picture_bytes}
+use Rattle.hv_types.specs.Configuration.{most_pictures, picture_bytes}
 use Rattle.hv_run.specs.declared.status.Status.{Status}
 use Rattle.hv_run.specs.declared.status.Status.TheVariants.{Ok, Words, ReadFault, ShortPicture, WriteFault, NoMemory, TooLong, ReportFault}
 use Rattle.hv_serial.specs.declared.encode.Totals.{Totals}
 use Rattle.hv_serial.specs.declared.encode.EncodeError.{EncodeError}
 use Rattle.hv_serial.specs.declared.encode.EncodeError.TheVariants as error
-use Rattle.hv_serial.specs.Outcomes.{most_pictures}
 use Rattle.hv_run.specs.Report.{Tells, TellsPart, Reports, totals_line, short_line, read_fault_line, write_fault_line, no_memory_line, too_long_line}
 use Rattle.hv_serial.specs.Transfers.{Drawn, Put}
 use Rattle.hv_serial.specs.Endings.{EndsOk, EndsReadFault, EndsShort, EndsWriteFault, EndsNoMemory, EndsTooLong}

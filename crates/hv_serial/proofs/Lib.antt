@@ -3,3 +3,4 @@ pub mod GrowthLemmas
 mod StreamLemmas
 pub mod ReadingLemmas
 pub mod ProgressLemmas
+mod EndLemmas

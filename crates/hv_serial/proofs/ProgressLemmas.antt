@@ -6,7 +6,7 @@ use Rattle.std.proofs.lemmas.List.{drop-drop, length-take-le}
 use Rattle.hv_types.specs.declared.settings.Settings.{Settings}
 use Rattle.hv_types.specs.declared.settings.Emit.TheVariants.{Stream}
 use Rattle.hv_types.specs.declared.picture.Picture.{Picture}
-use Rattle.hv_types.specs.Configuration.{picture_bytes}
+use Rattle.hv_types.specs.Configuration.{most_pictures, picture_bytes}
 use Rattle.hv_types.specs.Outside.{Fills, Rises}
 use Rattle.hv_types.proofs.ConfigurationLemmas.{picture_bytes-least}
 use Rattle.hv_model.specs.Built.{IsBuilt}
@@ -15,7 +15,7 @@ use Rattle.hv_serial.specs.declared.encode.Totals.{Totals}
 use Rattle.hv_serial.specs.declared.encode.EncodeError.{EncodeError}
 use Rattle.hv_serial.specs.declared.encode.EncodeError.TheVariants.{ReadFault, ShortPicture, WriteFault, NoMemory, TooLong}
 use Rattle.hv_serial.specs.Transfers.{Drawn, Put, EndsAfter, StopsShort, Grows, PutsPart}
-use Rattle.hv_serial.specs.Outcomes.{most_pictures, pictures_in, pictures_read, whole_groups, WroteGroups}
+use Rattle.hv_serial.specs.Outcomes.{pictures_in, pictures_read, whole_groups, WroteGroups}
 use Rattle.hv_serial.specs.Endings.{Told, NoFaults, Ends, EndsOk, EndsReadFault, EndsShort, EndsTooLong, EndsWriteFault, EndsNoMemory, bytes_of_picture, TookAll, TookPicture, EndsNext, NextDone, NextNone, NextReadFault, NextShort, NextWriteFault, NextNoMemory}
 use Rattle.hv_serial.proofs.GrowthLemmas.{Grows-more, PutsPart-more}
 use Rattle.hv_serial.proofs.StreamLemmas.{stream_output, snoc_of, stream_more}

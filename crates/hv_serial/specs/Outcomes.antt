@@ -4,16 +4,12 @@
 use Rattle.std.specs.Prelude.{◌≡◌, ◌⊎◌, ℕ, ◌+◌, ◌-◌, ◌*◌, ◌/◌, ◌<◌, ◌≤◌, List, [], length, take, drop, Option, Some}
 use Rattle.hv_types.specs.declared.settings.Settings.{Settings}
 use Rattle.hv_types.specs.declared.picture.Picture.{Picture}
-use Rattle.hv_types.specs.Configuration.{picture_bytes}
+use Rattle.hv_types.specs.Configuration.{most_pictures, picture_bytes}
 use Rattle.hv_types.specs.Video.{pictures, rest}
 use Rattle.hv_model.specs.Encoding.{output}
 use Rattle.hv_serial.specs.Transfers.{Grows, PutsPart}
 
 -- ---- what was read
-
--- how many pictures a video may have
-abbrev pub most_pictures : ℕ
-most_pictures = 400000
 
 abbrev pub pictures_in : Settings → List ℕ → List Picture
 pictures_in cfg bytes = pictures cfg.width cfg.height bytes

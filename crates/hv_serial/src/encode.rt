@@ -12,7 +12,7 @@ use crate::parameters::parameter_sets;
 use crate::transfer::{fill, write_all};
 use hv_decision::{Group, Structure};
 use hv_packet::picture_unit;
-use hv_types::{Config, Failed, GroupInput, NoMemory, Sink, Source};
+use hv_types::{Config, Failed, GroupInput, MOST_PICTURES, NoMemory, Sink, Source};
 use std::alloc::Global;
 
 /// What was encoded.
@@ -41,13 +41,31 @@ pub enum EncodeError {
     TooLong,
 }
 
-/// The pictures that a video may have.
-const MOST_PICTURES: u32 = 400_000;
+/// Encodes the video of the source: reads pictures until the input ends, and encodes and writes
+/// each before the next one is read. Where all were read and written, also where there is none, the
+/// sink is then asked once whether that came through: if it didn't, that is `WriteFault`.
+pub fn encode_video<S: Source, K: Sink>(
+    alloc: Global,
+    config: &Config,
+    source: &mut S,
+    out: &mut K,
+) -> Result<Totals, EncodeError>
+    requires built { IsBuilt config.now }
+    requires emit { config.now.emit ≡ Stream }
+    ensures { Ends config.now (drawn S.left S.faults source.old source.new)
+        (put K.written K.faults out.old out.new) result }
+{
+    let totals = encode_pictures(alloc, config, source, out)?;
+    match out.end() {
+        Ok(()) => Ok(totals),
+        Err(Failed) => Err(EncodeError::WriteFault),
+    }
+}
 
 /// Reads pictures until the input ends, and encodes and writes each before the next one is read. No
 /// read asks for more than the picture still lacks, and after the last picture that a video may
 /// have for one byte. The buffer for the raw picture is taken once.
-pub fn encode_video<S: Source, K: Sink>(
+fn encode_pictures<S: Source, K: Sink>(
     alloc: Global,
     config: &Config,
     source: &mut S,

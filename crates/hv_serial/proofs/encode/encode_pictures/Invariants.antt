@@ -4,7 +4,7 @@ use Rattle.std.specs.Vec.{vec_len}
 use Rattle.hv_types.specs.Configuration.{picture_bytes}
 use Rattle.hv_serial.proofs.ProgressLemmas.{IsAt}
 use Rattle.hv_serial.specs.Transfers.{drawn, put}
-use Rattle.hv_serial.proofs.encode.encode_video.Given as goal
+use Rattle.hv_serial.proofs.encode.encode_pictures.Given as goal
 
 abbrev pub invariant-loop-number : goal.invariant-loop-number
 invariant-loop-number g l =

@@ -81,7 +81,7 @@ behind a j xs ys inside long past =
     get_or-append_right ys (drop a xs) a j (pos 0) long past ∙ get_or-drop a xs (j - a) (pos 0) ∙ ap (at xs) here
 
 zero_fits : SFits w16 (pos 0)
-zero_fits = record { sfits = omega (arith, ints); }
+zero_fits = record { sfits = omega (arith, ints) }
 
 pub numbers_of_short : (n : ℕ) (f : ℕ → ℤ) (xs : List ℤ) → HasFirst n f xs → ((k : ℕ) → n ≤ k → at xs k ≡ pos 0) → ((k : ℕ) → SFits w16 (f k)) → Numbers xs
 numbers_of_short n f xs each rest fits k =

@@ -20,14 +20,14 @@ pub numbers_of_lanes : (f : ℕ → ℤ) (v : List ℤ) → FourLanes f v → Nu
 numbers_of_lanes f v h k =
     ⊎_elim
     (λ (below : k < 4). subst (SFits w32) (sym (h.each k below)) (SFits-int_wrap w32 (f k)))
-    (λ (past : 4 ≤ k). subst (SFits w32) (sym (get_or_past v k (pos 0) (omega (arith, past, h.count)))) (record { sfits = omega (arith, ints); }))
+    (λ (past : 4 ≤ k). subst (SFits w32) (sym (get_or_past v k (pos 0) (omega (arith, past, h.count)))) (record { sfits = omega (arith, ints) }))
     (cases_lt k 4)
 
 pub kept_lanes : (f : ℕ → ℤ) (v : List ℤ) → FourLanes f v → passed w32 v ≡ v
 kept_lanes f v h = kept w32 v (numbers_of_lanes f v h)
 
 pub same_lanes : (f g : ℕ → ℤ) (v : List ℤ) → ((j : ℕ) → j < 4 → f j ≡ g j) → FourLanes f v → FourLanes g v
-same_lanes f g v same h = record { count = h.count; each = λ j below. h.each j below ∙ ap (int_wrap w32) (same j below); }
+same_lanes f g v same h = record { count = h.count; each = λ j below. h.each j below ∙ ap (int_wrap w32) (same j below) }
 
 pub kept_four : (f : ℕ → ℤ) (v : List ℤ) → FourLanes f v → FourLanes f (passed w32 v)
 kept_four f v h = subst (FourLanes f) (sym (kept_lanes f v h)) h
@@ -51,9 +51,9 @@ backwards a b = let d : ℕ → ℤ = λ k. to_z w32 (get_or (differed a b ++ di
 pub lanes_mirrored : (f g : ℕ → ℤ) (a b : List ℤ) → FourLanes f a → FourLanes g b → FourLanes (λ j. f (3 - j) -ℤ g (3 - j)) (backwards a b)
 lanes_mirrored f g a b h k =
     let one = λ (j : ℕ) (below : j < 4).
-        differed_at 4 j a b (differed a b) h.count k.count (numbers_of_lanes f a h) (numbers_of_lanes g b k) below ∙
-        ap₂ (λ x y. int_wrap w32 (x -ℤ y)) (h.each j below) (k.each j below) ∙
-        parted (f j) (g j) in
+    differed_at 4 j a b (differed a b) h.count k.count (numbers_of_lanes f a h) (numbers_of_lanes g b k) below ∙
+    ap₂ (λ x y. int_wrap w32 (x -ℤ y)) (h.each j below) (k.each j below) ∙
+    parted (f j) (g j) in
     record {
       count = refl;
       each = by_four (λ j. at (backwards a b) j ≡ int_wrap w32 (f (3 - j) -ℤ g (3 - j)))
@@ -67,8 +67,6 @@ abbrev pub IsMirrored : List ℤ → List ℤ → List ℤ → Type 0
 IsMirrored a b r = (f g : ℕ → ℤ) → FourLanes f (passed w32 a) → FourLanes g (passed w32 b) → FourLanes (λ j. f (3 - j) -ℤ g (3 - j)) r
 
 -- four places of an odd half
-
-
 
 abbrev pub Odd : ℕ → (ℕ → ℤ) → ℕ → List ℤ → Type 0
 Odd d c n lanes = FourLanes (λ j. odd_sum (d + 2) c (n + j)) lanes

@@ -23,7 +23,7 @@ use Rattle.hv_transform.proofs.PlaceLemmas.{place_inside, row_of_place, column_o
 use Rattle.hv_transform.proofs.SquareLemmas.{square_is, row_below, column_below}
 
 zero_fits : SFits w16 (pos 0)
-zero_fits = record { sfits = omega (arith, ints); }
+zero_fits = record { sfits = omega (arith, ints) }
 
 -- a list whose first numbers are all, and have 16 bits
 pub numbers_by : (n : ℕ) (f : ℕ → ℤ) (xs : List ℤ) → length xs ≤ n → HasFirst n f xs → ((k : ℕ) → SFits w16 (f k)) → Numbers xs
@@ -37,8 +37,8 @@ pub clip_fits : (z : ℤ) → SFits w16 (clip16 z)
 clip_fits z = fits_of (clip16 z) z refl
   where
     fits_of : (y z : ℤ) → y ≡ clip16 z → SFits w16 y
-    fits_of (pos n) z e = record { sfits = omega (arith, ints, clamps, e); }
-    fits_of (negsuc n) z e = record { sfits = omega (arith, ints, clamps, e); }
+    fits_of (pos n) z e = record { sfits = omega (arith, ints, clamps, e) }
+    fits_of (negsuc n) z e = record { sfits = omega (arith, ints, clamps, e) }
 
 pub mean_fits : (d : ℕ) (rows : List (List ℤ)) (s k : ℕ) → SFits w16 (pass_mean d rows s k)
 mean_fits d rows s k = clip_fits (rounded (column_sum (d + 2) (in_order d (numbers_from rows (k / 2 ^ (d + 2)) 0)) (k % 2 ^ (d + 2))) s)

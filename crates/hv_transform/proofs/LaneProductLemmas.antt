@@ -41,7 +41,7 @@ numbers_of_pair row i f g zero = f
 numbers_of_pair row i f g (suc zero) = g
 numbers_of_pair row i f g (suc (suc k)) =
     let few : length (take 2 (drop (2 * i) row)) ≤ suc (suc k) = omega (arith, length-take 2 (drop (2 * i) row)) in
-    rw (get_or_past (take 2 (drop (2 * i) row)) (suc (suc k)) (pos 0) few) (record { sfits = omega (arith, ints); })
+    rw (get_or_past (take 2 (drop (2 * i) row)) (suc (suc k)) (pos 0) few) (record { sfits = omega (arith, ints) })
 
 pub numbers_of_row : (rows : List (List ℤ)) (p i : ℕ) → ((r : ℕ) → r < 4 → SFits w16 (in_pairs rows i (2 * p + r))) → Numbers (pair_of (table_row rows p) i)
 numbers_of_row rows p i f =

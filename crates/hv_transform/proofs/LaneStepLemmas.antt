@@ -78,13 +78,13 @@ abbrev pub narrowed : List ℕ → List ℤ
 narrowed xs = map (to_z w16) (map (act1 (cast signed signed w16) (s_int w32) (s_int w16)) xs)
 
 fits16 : (z : ℤ) → lt_z z (negsuc 32767) ≡ false → lt_z z (pos 32767) ≡ true → SFits w16 z
-fits16 (pos n) p q = record { sfits = omega (arith, ints, p, q); }
-fits16 (negsuc n) p q = record { sfits = omega (arith, ints, p, q); }
+fits16 (pos n) p q = record { sfits = omega (arith, ints, p, q) }
+fits16 (negsuc n) p q = record { sfits = omega (arith, ints, p, q) }
 
 fits_by : (a b : Bool) (n : ℕ) → lt_z (to_z w32 n) (negsuc 32767) ≡ a → lt_z (to_z w32 n) (pos 32767) ≡ b → Each1 (Asks1 (cast signed signed w16) (s_int w32)) (clamped (n ∷ []) (4294934528 ∷ []) (32767 ∷ []))
-fits_by true b n p q = rw (p) (record { sfits = omega arith; }, tt)
+fits_by true b n p q = rw (p) (record { sfits = omega arith }, tt)
 fits_by false true n p q = rw (p, q) (fits16 (to_z w32 n) p q, tt)
-fits_by false false n p q = rw (p, q) (record { sfits = omega arith; }, tt)
+fits_by false false n p q = rw (p, q) (record { sfits = omega arith }, tt)
 
 pub all_fit : (n : ℕ) (xs : List ℕ) → Each1 (Asks1 (cast signed signed w16) (s_int w32)) (clamped xs (replicate n 4294934528) (replicate n 32767))
 all_fit zero [] = tt
@@ -184,8 +184,8 @@ clip_fits : (z : ℤ) → SFits w16 (clip16 z)
 clip_fits z = fits_of (clip16 z) z refl
   where
     fits_of : (y z : ℤ) → y ≡ clip16 z → SFits w16 y
-    fits_of (pos n) z e = record { sfits = omega (arith, ints, clamps, e); }
-    fits_of (negsuc n) z e = record { sfits = omega (arith, ints, clamps, e); }
+    fits_of (pos n) z e = record { sfits = omega (arith, ints, clamps, e) }
+    fits_of (negsuc n) z e = record { sfits = omega (arith, ints, clamps, e) }
 
 pub clips_kept : (f : ℤ → ℤ) (zs : List ℤ) → passed w16 (map (λ z. clip16 (f z)) zs) ≡ map (λ z. clip16 (f z)) zs
 clips_kept f [] = refl

@@ -20,7 +20,7 @@ lane a b c d e f g h = to_z w32 (((product a e + product b f) % 4294967296 + (pr
 
 -- a number of 16 bits has 32
 pub widened : (z : ℤ) → SFits w16 z → SFits w32 z
-widened z f = record { sfits = omega (arith, f); }
+widened z f = record { sfits = omega (arith, f) }
 
 below : (z : ℤ) → SFits w32 z → of_z w32 z < 4294967296
 below (pos n) f = omega (arith, f)
@@ -67,17 +67,28 @@ end (suc n) (suc k) (x ∷ xs) l q = end n k xs (omega (arith, l)) (omega (arith
 
 pub quad_is : (xs₀ bs₀ ws : List ℤ) (ys : List ℕ) (j k : ℕ) → k ≡ 2 * j → k + 10 ≤ 16 → length xs₀ ≡ 2 → length bs₀ ≡ 2 → length ws ≡ 16 → Numbers xs₀ → Numbers bs₀ → Numbers ws
     → (let xs = map (of_z w16) (take 2 xs₀) ++ map (of_z w16) (take 2 bs₀) in
-       let vs = map (of_z w16) (take 16 ws) ++ ys in
-       lane (get_or xs 0 0) (get_or xs 1 0) (get_or xs 2 0) (get_or xs 3 0) (get_or vs k 0) (get_or vs (k + 1) 0) (get_or vs (8 + k) 0) (get_or vs (8 + k + 1) 0)) ≡ quad xs₀ bs₀ ws j
+    let vs = map (of_z w16) (take 16 ws) ++ ys in
+    lane (get_or xs 0 0) (get_or xs 1 0) (get_or xs 2 0) (get_or xs 3 0) (get_or vs k 0) (get_or vs (k + 1) 0) (get_or vs (8 + k) 0) (get_or vs (8 + k + 1) 0)) ≡ quad xs₀ bs₀ ws j
 quad_is xs₀ bs₀ ws ys j k e le la lb lw fa fb fw =
     let rest : List ℕ = map (of_z w16) (take 2 bs₀) in
-    rw (numbers 2 0 xs₀ rest la (omega arith), numbers 2 1 xs₀ rest la (omega arith), others 0 xs₀ rest la, others 1 xs₀ rest la, end 2 0 bs₀ lb (omega arith), end 2 1 bs₀ lb (omega arith),
-        numbers 16 k ws ys lw (omega arith), numbers 16 (k + 1) ws ys lw (omega arith), numbers 16 (8 + k) ws ys lw (omega arith), numbers 16 (8 + k + 1) ws ys lw (omega arith), ← e)
+    rw (
+      numbers 2 0 xs₀ rest la (omega arith),
+      numbers 2 1 xs₀ rest la (omega arith),
+      others 0 xs₀ rest la,
+      others 1 xs₀ rest la,
+      end 2 0 bs₀ lb (omega arith),
+      end 2 1 bs₀ lb (omega arith),
+      numbers 16 k ws ys lw (omega arith),
+      numbers 16 (k + 1) ws ys lw (omega arith),
+      numbers 16 (8 + k) ws ys lw (omega arith),
+      numbers 16 (8 + k + 1) ws ys lw (omega arith),
+      ← e,
+    )
     (lane_is (at xs₀ 0) (at xs₀ 1) (at bs₀ 0) (at bs₀ 1) (at ws k) (at ws (k + 1)) (at ws (8 + k)) (at ws (8 + k + 1)) (fa 0) (fa 1) (fb 0) (fb 1) (fw k) (fw (k + 1)) (fw (8 + k)) (fw (8 + k + 1)))
 
 always_by : (b : Bool) (n : ℕ) → nat_lt n 32768 ≡ b → SFits w32 (to_z w16 n)
-always_by true n e = rw (e) (record { sfits = omega (arith, leb-true _ _ e); })
-always_by false n e = rw (e) (record { sfits = omega arith; })
+always_by true n e = rw (e) (record { sfits = omega (arith, leb-true _ _ e) })
+always_by false n e = rw (e) (record { sfits = omega arith })
 
 -- a number of 16 bits is one of 32
 pub always : (n : ℕ) → SFits w32 (to_z w16 n)

@@ -74,19 +74,20 @@ pub means_are : (d n s : ℕ) (c : ℕ → ℤ) (a b out : List ℤ) → d ≤ 3
 means_are d n s c a b out few inside small h k e =
     let mean : ℤ → ℤ = λ z. clip16 (rounded z s) in
     let is : out ≡ map mean (a ++ b) = e ∙ ap₂ (λ x y. map mean (x ++ y)) (kept_lanes _ a h) (kept_lanes _ b k) in
-    let both : length (a ++ b) ≡ 8 = length-append a b ∙ ap₂ (λ x y. x + y) h.count k.count in
-    (ap length is ∙ length-map (a ++ b) mean ∙ both,
-    λ m below.
-    ap (λ v. at v m) is ∙ get_or-map mean (a ++ b) m (pos 0) (pos 0) (omega (arith, below, both)) ∙
-    ap mean
-    (⊎_elim
-    (λ (less : m < 4).
-    get_or_append_left a b (pos 0) m (omega (arith, less, h.count)) ∙ (lane_is d n c a few (omega (arith, inside)) small h m less).0)
-    (λ (more : 4 ≤ m).
-    let place : n + 4 + (m - 4) ≡ n + m = omega (arith, more) in
-    get_or-append_right a b 4 m (pos 0) h.count more ∙ (lane_is d (n + 4) c b few (omega (arith, inside)) small k (m - 4) (omega (arith, below, more))).0 ∙
-    ap (column_sum (d + 2) (in_order d c)) place)
-    (cases_lt m 4)))
+    let both : length (a ++ b) ≡ 8 = length-append a b ∙ ap₂ (λ x y. x + y) h.count k.count in (
+      ap length is ∙ length-map (a ++ b) mean ∙ both,
+      λ m below.
+          ap (λ v. at v m) is ∙ get_or-map mean (a ++ b) m (pos 0) (pos 0) (omega (arith, below, both)) ∙
+          ap mean
+          (⊎_elim
+          (λ (less : m < 4).
+          get_or_append_left a b (pos 0) m (omega (arith, less, h.count)) ∙ (lane_is d n c a few (omega (arith, inside)) small h m less).0)
+          (λ (more : 4 ≤ m).
+          let place : n + 4 + (m - 4) ≡ n + m = omega (arith, more) in
+          get_or-append_right a b 4 m (pos 0) h.count more ∙ (lane_is d (n + 4) c b few (omega (arith, inside)) small k (m - 4) (omega (arith, below, more))).0 ∙
+          ap (column_sum (d + 2) (in_order d c)) place)
+          (cases_lt m 4)),
+    )
 
 -- eight more means of a row
 pub means_more : (d n s k : ℕ) (c : ℕ → ℤ) (a b out new : List ℤ) → d ≤ 3 → n + 8 ≤ 2 ^ (d + 2) → ((k : ℕ) → k < 2 ^ (d + 2) → unsigned_abs (in_order d c k) ≤ 32768) → ColumnSums d c n a → ColumnSums d c (n + 4) b

@@ -123,11 +123,13 @@ pairs_more n columns p block table rows row a b inside old first second new i r 
     by_two P a b zero p = a
     by_two P a b (suc zero) p = b
     by_two P a b (suc (suc h)) p = absurd (omega (arith, p))
+
     woven_even : (a b : List ℤ) (i : ℕ) → woven a b (2 * i + 0) ≡ at a i
     woven_even a b i =
         let rest : (2 * i + 0) % 2 ≡ 0 = omega arith in
         let half : (2 * i + 0) / 2 ≡ i = omega arith in
         rw (rest, half) refl
+
     woven_odd : (a b : List ℤ) (i : ℕ) → woven a b (2 * i + 1) ≡ at b i
     woven_odd a b i =
         let rest : (2 * i + 1) % 2 ≡ 1 = omega arith in
@@ -180,8 +182,9 @@ weave_more n columns pairs p block table rows first row inside count few whole o
     let a : List ℤ = take columns (drop (entry_of table p 0 * n) block) in
     let b : List ℤ = take columns (drop (entry_of table p 1 * n) block) in
     let here : (y : ℕ) → part n columns block y ≡ take columns (drop (y * n) block) = λ y. ap (λ m. take m (drop (y * n) block)) (between (y * n) columns) in
-    let long : length a ≡ columns = row_part n (entry_of table p 0) columns block (omega (arith, order p inside)) few whole in
-    (pairs_more n columns p block table rows row a b (omega (arith, inside, count)) old.0 refl refl (subst (λ m. HasFirst (2 * m) (woven a b) row) long
-    (subst (λ v. HasFirst (2 * length v) (woven v b) row) (here (entry_of table p 0)) (subst (λ v. HasFirst (2 * length (part n columns block (entry_of table p 0))) (woven (part n columns block (entry_of table p 0)) v) row) (here (entry_of table p 1)) new))),
-    others_kept p rows first row old.1,
-    length-set rows p row ∙ count)
+    let long : length a ≡ columns = row_part n (entry_of table p 0) columns block (omega (arith, order p inside)) few whole in (
+      pairs_more n columns p block table rows row a b (omega (arith, inside, count)) old.0 refl refl (subst (λ m. HasFirst (2 * m) (woven a b) row) long
+          (subst (λ v. HasFirst (2 * length v) (woven v b) row) (here (entry_of table p 0)) (subst (λ v. HasFirst (2 * length (part n columns block (entry_of table p 0))) (woven (part n columns block (entry_of table p 0)) v) row) (here (entry_of table p 1)) new))),
+      others_kept p rows first row old.1,
+      length-set rows p row ∙ count,
+    )

@@ -56,14 +56,14 @@ pub Numbers-part : (a m : ℕ) (xs : List ℤ) → Numbers xs → Numbers (take 
 Numbers-part a m xs f n =
     ⊎_elim
     (λ (below : n < m). subst (SFits w16) (sym (at_part a m n xs below)) (f (a + n)))
-    (λ (past : m ≤ n). subst (SFits w16) (sym (get_or_past (take m (drop a xs)) n (pos 0) (omega (arith, past, length-take m (drop a xs))))) (record { sfits = omega (arith, ints); }))
+    (λ (past : m ≤ n). subst (SFits w16) (sym (get_or_past (take m (drop a xs)) n (pos 0) (omega (arith, past, length-take m (drop a xs))))) (record { sfits = omega (arith, ints) }))
     (cases_lt n m)
 
 pub numbers_of_bits : (xs : List ℤ) → Have16Bits xs → Numbers xs
 numbers_of_bits xs h k =
     ⊎_elim
     (λ (below : k < length xs). h k (pos 0) below)
-    (λ (past : length xs ≤ k). subst (SFits w16) (sym (get_or_past xs k (pos 0) past)) (record { sfits = omega (arith, ints); }))
+    (λ (past : length xs ≤ k). subst (SFits w16) (sym (get_or_past xs k (pos 0) past)) (record { sfits = omega (arith, ints) }))
     (cases_lt k (length xs))
 
 -- numbers of 16 bits are their own nearest
@@ -83,7 +83,8 @@ narrowed_is out numbers l m h =
     ap (put_chunk 0 out) is ∙ put_chunk_whole out numbers (m ∙ sym l)
   where
     wider : (z : ℤ) → SFits w16 z → SFits w32 z
-    wider z f = record { sfits = omega (arith, f); }
+    wider z f = record { sfits = omega (arith, f) }
+
     wide : (xs : List ℤ) → Have16Bits xs → (k : ℕ) → SFits w32 (at xs k)
     wide xs h k = wider (at xs k) (numbers_of_bits xs h k)
 

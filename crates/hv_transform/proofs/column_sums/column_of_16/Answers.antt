@@ -6,9 +6,34 @@ use Rattle.hv_transform.proofs.LaneHalfLemmas.{odd_lanes_16}
 use Rattle.hv_transform.proofs.column_sums.column_of_16.Goals as goal
 
 pub column_of_8-requires : goal.column_of_8-requires
-column_of_8-requires g c =
-    (omega arith, (omega arith, (omega arith, (omega arith, (omega arith, (omega arith, (omega arith, (omega arith, (omega arith,
-    (bits_from 16 8 4 c.args.rows.now c.args.i c.args.p c.requires.numbers (omega arith), weights_below 3 4 c.args.table.now (omega arith) c.requires.weights))))))))))
+column_of_8-requires g c = (
+  omega arith,
+  (
+    omega arith,
+    (
+      omega arith,
+      (
+        omega arith,
+        (
+          omega arith,
+          (
+            omega arith,
+            (
+              omega arith,
+              (
+                omega arith,
+                (
+                  omega arith,
+                  (bits_from 16 8 4 c.args.rows.now c.args.i c.args.p c.requires.numbers (omega arith), weights_below 3 4 c.args.table.now (omega arith) c.requires.weights),
+                ),
+              ),
+            ),
+          ),
+        ),
+      ),
+    ),
+  ),
+)
 
 pub returns-clause-first : goal.returns-clause-first
 returns-clause-first g c =

@@ -14,10 +14,10 @@ returns g c =
     let h : ℕ → ℤ = lane_sum c.args.second.now c.args.rows.now c.args.i (2 * (c.args.p + 2)) in
     let both : ℕ → ℤ = two_sums c.args.first.now c.args.second.now c.args.rows.now c.args.i c.args.p in
     elim c.if-this-ne0.branch [
-      then-this-ne0 w ↦ chosen both w.lane_sums.result c.if-this-ne0.result w.result-is
+      | then-this-ne0 w ↦ chosen both w.lane_sums.result c.if-this-ne0.result w.result-is
           (more_of_0 f h w.lane_sums.result
           (λ j. few_sum 8 2 c.args.second.now c.args.rows.now c.args.i c.args.p j (c.requires.few (is_set g.row.FEW w.if-this-ne0.true)) (omega arith) (omega arith))
           w.lane_sums.ensures)
-    | else-this-ne0 w ↦ chosen both w.sums.result c.if-this-ne0.result w.result-is
+      | else-this-ne0 w ↦ chosen both w.sums.result c.if-this-ne0.result w.result-is
           (w.sums.ensures f h (kept_four f w.lane_sums-else-this-ne0.result w.lane_sums-else-this-ne0.ensures) (kept_four h w.lane_sums-else-this-ne0-2.result w.lane_sums-else-this-ne0-2.ensures))
     ]

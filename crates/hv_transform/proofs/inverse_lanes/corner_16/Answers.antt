@@ -5,9 +5,37 @@ use Rattle.hv_transform.proofs.InverseLaneLemmas.{mean_fits, bits_of_pairs, inve
 use Rattle.hv_transform.proofs.inverse_lanes.corner_16.Goals as goal
 
 pub weave-requires : goal.weave-requires
-weave-requires c =
-    (omega arith, (omega arith, (omega arith, (c.requires.block, (omega arith, (omega arith, (omega arith, (omega arith, (omega arith, (omega arith,
-    (c.requires.numbers, (c.order_of_16.ensures.pairs, ((λ _. c.requires.rows), (λ _. zero_rows 8 40))))))))))))))
+weave-requires c = (
+  omega arith,
+  (
+    omega arith,
+    (
+      omega arith,
+      (
+        c.requires.block,
+        (
+          omega arith,
+          (
+            omega arith,
+            (
+              omega arith,
+              (
+                omega arith,
+                (
+                  omega arith,
+                  (
+                    omega arith,
+                    (c.requires.numbers, (c.order_of_16.ensures.pairs, ((λ _. c.requires.rows), (λ _. zero_rows 8 40)))),
+                  ),
+                ),
+              ),
+            ),
+          ),
+        ),
+      ),
+    ),
+  ),
+)
 
 pub first_columns_16-requires-clause-numbers : goal.first_columns_16-requires-clause-numbers
 first_columns_16-requires-clause-numbers c =
@@ -21,15 +49,56 @@ first_columns_16-requires-clause-clear c = zeros 256
 
 pub weave-requires-2 : goal.weave-requires-2
 weave-requires-2 c =
-    let numbers : Numbers c.first_columns_16.new.out = numbers_of_short 128 (pass_mean 2 c.weave.new.out 7) c.first_columns_16.new.out c.first_columns_16.ensures.first c.first_columns_16.ensures.rest (mean_fits 2 c.weave.new.out 7) in
-    (omega arith, (omega arith, (omega arith, (search rules, (omega arith, (omega arith, (omega arith, (omega arith, (omega arith, (omega arith,
-    (numbers, (c.order_of_16-2.ensures.pairs, ((λ _. c.first_columns_16.ensures.rest), (λ _. zero_rows 8 40))))))))))))))
+    let numbers : Numbers c.first_columns_16.new.out = numbers_of_short 128 (pass_mean 2 c.weave.new.out 7) c.first_columns_16.new.out c.first_columns_16.ensures.first c.first_columns_16.ensures.rest (mean_fits 2 c.weave.new.out 7) in (
+      omega arith,
+      (
+        omega arith,
+        (
+          omega arith,
+          (
+            search rules,
+            (
+              omega arith,
+              (
+                omega arith,
+                (
+                  omega arith,
+                  (
+                    omega arith,
+                    (
+                      omega arith,
+                      (
+                        omega arith,
+                        (numbers, (c.order_of_16-2.ensures.pairs, ((λ _. c.first_columns_16.ensures.rest), (λ _. zero_rows 8 40)))),
+                      ),
+                    ),
+                  ),
+                ),
+              ),
+            ),
+          ),
+        ),
+      ),
+    )
 
 pub pass_16-requires : goal.pass_16-requires
 pass_16-requires c =
-    let numbers : Numbers c.first_columns_16.new.out = numbers_of_short 128 (pass_mean 2 c.weave.new.out 7) c.first_columns_16.new.out c.first_columns_16.ensures.first c.first_columns_16.ensures.rest (mean_fits 2 c.weave.new.out 7) in
-    (omega arith, (omega arith, (omega arith, (omega arith, (bits_of_pairs 2 16 16 c.first_columns_16.new.out c.weave-2.new.out numbers (c.weave-2.ensures 2 c.order_of_16-2.ensures.order),
-    ((λ _. few_16 16 c.first_columns_16.new.out c.weave-2.new.out (c.weave-2.ensures 2 c.order_of_16-2.ensures.order) c.first_columns_16.ensures.rest), (c.second_weights_16.ensures, (omega arith, (omega arith, c.requires.room)))))))))
+    let numbers : Numbers c.first_columns_16.new.out = numbers_of_short 128 (pass_mean 2 c.weave.new.out 7) c.first_columns_16.new.out c.first_columns_16.ensures.first c.first_columns_16.ensures.rest (mean_fits 2 c.weave.new.out 7) in (
+      omega arith,
+      (
+        omega arith,
+        (
+          omega arith,
+          (
+            omega arith,
+            (
+              bits_of_pairs 2 16 16 c.first_columns_16.new.out c.weave-2.new.out numbers (c.weave-2.ensures 2 c.order_of_16-2.ensures.order),
+              ((λ _. few_16 16 c.first_columns_16.new.out c.weave-2.new.out (c.weave-2.ensures 2 c.order_of_16-2.ensures.order) c.first_columns_16.ensures.rest), (c.second_weights_16.ensures, (omega arith, (omega arith, c.requires.room)))),
+            ),
+          ),
+        ),
+      ),
+    )
 
 pub returns : goal.returns
 returns c =

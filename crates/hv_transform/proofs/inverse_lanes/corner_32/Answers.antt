@@ -5,9 +5,37 @@ use Rattle.hv_transform.proofs.InverseLaneLemmas.{mean_fits, bits_of_pairs, inve
 use Rattle.hv_transform.proofs.inverse_lanes.corner_32.Goals as goal
 
 pub weave-requires : goal.weave-requires
-weave-requires c =
-    (omega arith, (omega arith, (omega arith, (c.requires.block, (omega arith, (omega arith, (omega arith, (omega arith, (omega arith, (omega arith,
-    (c.requires.numbers, (c.order_of_32.ensures.pairs, ((λ _. c.requires.rows), (λ _. zero_rows 16 72))))))))))))))
+weave-requires c = (
+  omega arith,
+  (
+    omega arith,
+    (
+      omega arith,
+      (
+        c.requires.block,
+        (
+          omega arith,
+          (
+            omega arith,
+            (
+              omega arith,
+              (
+                omega arith,
+                (
+                  omega arith,
+                  (
+                    omega arith,
+                    (c.requires.numbers, (c.order_of_32.ensures.pairs, ((λ _. c.requires.rows), (λ _. zero_rows 16 72)))),
+                  ),
+                ),
+              ),
+            ),
+          ),
+        ),
+      ),
+    ),
+  ),
+)
 
 pub first_columns_32-requires-clause-numbers : goal.first_columns_32-requires-clause-numbers
 first_columns_32-requires-clause-numbers c =
@@ -24,15 +52,56 @@ first_columns_32-requires-clause-clear c = zeros 1024
 
 pub weave-requires-2 : goal.weave-requires-2
 weave-requires-2 c =
-    let numbers : Numbers c.first_columns_32.new.out = numbers_of_short 256 (pass_mean 3 c.weave.new.out 7) c.first_columns_32.new.out c.first_columns_32.ensures.first c.first_columns_32.ensures.rest (mean_fits 3 c.weave.new.out 7) in
-    (omega arith, (omega arith, (omega arith, (search rules, (omega arith, (omega arith, (omega arith, (omega arith, (omega arith, (omega arith,
-    (numbers, (c.order_of_32-2.ensures.pairs, ((λ _. c.first_columns_32.ensures.rest), (λ _. zero_rows 16 72))))))))))))))
+    let numbers : Numbers c.first_columns_32.new.out = numbers_of_short 256 (pass_mean 3 c.weave.new.out 7) c.first_columns_32.new.out c.first_columns_32.ensures.first c.first_columns_32.ensures.rest (mean_fits 3 c.weave.new.out 7) in (
+      omega arith,
+      (
+        omega arith,
+        (
+          omega arith,
+          (
+            search rules,
+            (
+              omega arith,
+              (
+                omega arith,
+                (
+                  omega arith,
+                  (
+                    omega arith,
+                    (
+                      omega arith,
+                      (
+                        omega arith,
+                        (numbers, (c.order_of_32-2.ensures.pairs, ((λ _. c.first_columns_32.ensures.rest), (λ _. zero_rows 16 72)))),
+                      ),
+                    ),
+                  ),
+                ),
+              ),
+            ),
+          ),
+        ),
+      ),
+    )
 
 pub pass_32-requires : goal.pass_32-requires
 pass_32-requires c =
-    let numbers : Numbers c.first_columns_32.new.out = numbers_of_short 256 (pass_mean 3 c.weave.new.out 7) c.first_columns_32.new.out c.first_columns_32.ensures.first c.first_columns_32.ensures.rest (mean_fits 3 c.weave.new.out 7) in
-    (omega arith, (omega arith, (omega arith, (omega arith, (bits_of_pairs 3 32 32 c.first_columns_32.new.out c.weave-2.new.out numbers (c.weave-2.ensures 3 c.order_of_32-2.ensures.order),
-    ((λ _. few_32 32 c.first_columns_32.new.out c.weave-2.new.out (c.weave-2.ensures 3 c.order_of_32-2.ensures.order) c.first_columns_32.ensures.rest), ((λ _. few_others_32 32 c.first_columns_32.new.out c.weave-2.new.out (c.weave-2.ensures 3 c.order_of_32-2.ensures.order) c.first_columns_32.ensures.rest), (c.second_weights_32.ensures, (omega arith, (omega arith, c.requires.room))))))))))
+    let numbers : Numbers c.first_columns_32.new.out = numbers_of_short 256 (pass_mean 3 c.weave.new.out 7) c.first_columns_32.new.out c.first_columns_32.ensures.first c.first_columns_32.ensures.rest (mean_fits 3 c.weave.new.out 7) in (
+      omega arith,
+      (
+        omega arith,
+        (
+          omega arith,
+          (
+            omega arith,
+            (
+              bits_of_pairs 3 32 32 c.first_columns_32.new.out c.weave-2.new.out numbers (c.weave-2.ensures 3 c.order_of_32-2.ensures.order),
+              ((λ _. few_32 32 c.first_columns_32.new.out c.weave-2.new.out (c.weave-2.ensures 3 c.order_of_32-2.ensures.order) c.first_columns_32.ensures.rest), ((λ _. few_others_32 32 c.first_columns_32.new.out c.weave-2.new.out (c.weave-2.ensures 3 c.order_of_32-2.ensures.order) c.first_columns_32.ensures.rest), (c.second_weights_32.ensures, (omega arith, (omega arith, c.requires.room))))),
+            ),
+          ),
+        ),
+      ),
+    )
 
 pub returns : goal.returns
 returns c =

@@ -9,15 +9,41 @@ use Rattle.hv_transform.proofs.inverse_lanes.inverse_8.Goals as goal
 pub pass_8-requires : goal.pass_8-requires
 pass_8-requires c =
     let block : HasFirst 64 (at c.args.coefficients.now) c.narrow.new.out = λ k below. c.narrow.ensures k (omega (arith, below, c.requires.block)) in
-    let numbers = numbers_by 64 (at c.args.coefficients.now) c.narrow.new.out (omega arith) block (numbers_of_bits c.args.coefficients.now c.requires.range) in
-    (omega arith, (omega arith, (omega arith, (omega arith, (bits_of_pairs 1 8 8 c.narrow.new.out c.weave.new.out numbers (c.weave.ensures 1 c.order_of_8.ensures.order),
-    (c.first_weights_8.ensures, (omega arith, (omega arith, search rules))))))))
+    let numbers = numbers_by 64 (at c.args.coefficients.now) c.narrow.new.out (omega arith) block (numbers_of_bits c.args.coefficients.now c.requires.range) in (
+      omega arith,
+      (
+        omega arith,
+        (
+          omega arith,
+          (
+            omega arith,
+            (
+              bits_of_pairs 1 8 8 c.narrow.new.out c.weave.new.out numbers (c.weave.ensures 1 c.order_of_8.ensures.order),
+              (c.first_weights_8.ensures, (omega arith, (omega arith, search rules))),
+            ),
+          ),
+        ),
+      ),
+    )
 
 pub pass_8-requires-2 : goal.pass_8-requires-2
 pass_8-requires-2 c =
-    let numbers = numbers_by 64 (pass_mean 1 c.weave.new.out 7) c.pass_8.new.out (omega arith) c.pass_8.ensures (mean_fits 1 c.weave.new.out 7) in
-    (omega arith, (omega arith, (omega arith, (omega arith, (bits_of_pairs 1 8 8 c.pass_8.new.out c.weave-2.new.out numbers (c.weave-2.ensures 1 c.order_of_8-2.ensures.order),
-    (c.second_weights_8.ensures, (omega arith, (omega arith, search rules))))))))
+    let numbers = numbers_by 64 (pass_mean 1 c.weave.new.out 7) c.pass_8.new.out (omega arith) c.pass_8.ensures (mean_fits 1 c.weave.new.out 7) in (
+      omega arith,
+      (
+        omega arith,
+        (
+          omega arith,
+          (
+            omega arith,
+            (
+              bits_of_pairs 1 8 8 c.pass_8.new.out c.weave-2.new.out numbers (c.weave-2.ensures 1 c.order_of_8-2.ensures.order),
+              (c.second_weights_8.ensures, (omega arith, (omega arith, search rules))),
+            ),
+          ),
+        ),
+      ),
+    )
 
 pub returns : goal.returns
 returns c =

@@ -5,15 +5,41 @@ use Rattle.hv_transform.proofs.PlaceLemmas.{place_inside}
 use Rattle.hv_transform.proofs.inverse_lanes.whole_16.Goals as goal
 
 pub pass_16-requires : goal.pass_16-requires
-pass_16-requires c =
-    (omega arith, (omega arith, (omega arith, (omega arith, (bits_of_pairs 2 16 16 c.args.block.now c.weave.new.out c.requires.numbers (c.weave.ensures 2 c.order_of_16.ensures.order),
-    ((λ never. absurd (true≢false (sym never))), (c.first_weights_16.ensures, (omega arith, (omega arith, search rules)))))))))
+pass_16-requires c = (
+  omega arith,
+  (
+    omega arith,
+    (
+      omega arith,
+      (
+        omega arith,
+        (
+          bits_of_pairs 2 16 16 c.args.block.now c.weave.new.out c.requires.numbers (c.weave.ensures 2 c.order_of_16.ensures.order),
+          ((λ never. absurd (true≢false (sym never))), (c.first_weights_16.ensures, (omega arith, (omega arith, search rules)))),
+        ),
+      ),
+    ),
+  ),
+)
 
 pub pass_16-requires-2 : goal.pass_16-requires-2
 pass_16-requires-2 c =
-    let numbers = numbers_by 256 (pass_mean 2 c.weave.new.out 7) c.pass_16.new.out (omega arith) c.pass_16.ensures (mean_fits 2 c.weave.new.out 7) in
-    (omega arith, (omega arith, (omega arith, (omega arith, (bits_of_pairs 2 16 16 c.pass_16.new.out c.weave-2.new.out numbers (c.weave-2.ensures 2 c.order_of_16-2.ensures.order),
-    ((λ never. absurd (true≢false (sym never))), (c.second_weights_16.ensures, (omega arith, (omega arith, search rules)))))))))
+    let numbers = numbers_by 256 (pass_mean 2 c.weave.new.out 7) c.pass_16.new.out (omega arith) c.pass_16.ensures (mean_fits 2 c.weave.new.out 7) in (
+      omega arith,
+      (
+        omega arith,
+        (
+          omega arith,
+          (
+            omega arith,
+            (
+              bits_of_pairs 2 16 16 c.pass_16.new.out c.weave-2.new.out numbers (c.weave-2.ensures 2 c.order_of_16-2.ensures.order),
+              ((λ never. absurd (true≢false (sym never))), (c.second_weights_16.ensures, (omega arith, (omega arith, search rules)))),
+            ),
+          ),
+        ),
+      ),
+    )
 
 pub returns : goal.returns
 returns c =

@@ -5,15 +5,41 @@ use Rattle.hv_transform.proofs.PlaceLemmas.{place_inside}
 use Rattle.hv_transform.proofs.inverse_lanes.whole_32.Goals as goal
 
 pub pass_32-requires : goal.pass_32-requires
-pass_32-requires c =
-    (omega arith, (omega arith, (omega arith, (omega arith, (bits_of_pairs 3 32 32 c.args.block.now c.weave.new.out c.requires.numbers (c.weave.ensures 3 c.order_of_32.ensures.order),
-    ((λ never. absurd (true≢false (sym never))), ((λ never. absurd (true≢false (sym never))), (c.first_weights_32.ensures, (omega arith, (omega arith, search rules))))))))))
+pass_32-requires c = (
+  omega arith,
+  (
+    omega arith,
+    (
+      omega arith,
+      (
+        omega arith,
+        (
+          bits_of_pairs 3 32 32 c.args.block.now c.weave.new.out c.requires.numbers (c.weave.ensures 3 c.order_of_32.ensures.order),
+          ((λ never. absurd (true≢false (sym never))), ((λ never. absurd (true≢false (sym never))), (c.first_weights_32.ensures, (omega arith, (omega arith, search rules))))),
+        ),
+      ),
+    ),
+  ),
+)
 
 pub pass_32-requires-2 : goal.pass_32-requires-2
 pass_32-requires-2 c =
-    let numbers = numbers_by 1024 (pass_mean 3 c.weave.new.out 7) c.pass_32.new.out (omega arith) c.pass_32.ensures (mean_fits 3 c.weave.new.out 7) in
-    (omega arith, (omega arith, (omega arith, (omega arith, (bits_of_pairs 3 32 32 c.pass_32.new.out c.weave-2.new.out numbers (c.weave-2.ensures 3 c.order_of_32-2.ensures.order),
-    ((λ never. absurd (true≢false (sym never))), ((λ never. absurd (true≢false (sym never))), (c.second_weights_32.ensures, (omega arith, (omega arith, search rules))))))))))
+    let numbers = numbers_by 1024 (pass_mean 3 c.weave.new.out 7) c.pass_32.new.out (omega arith) c.pass_32.ensures (mean_fits 3 c.weave.new.out 7) in (
+      omega arith,
+      (
+        omega arith,
+        (
+          omega arith,
+          (
+            omega arith,
+            (
+              bits_of_pairs 3 32 32 c.pass_32.new.out c.weave-2.new.out numbers (c.weave-2.ensures 3 c.order_of_32-2.ensures.order),
+              ((λ never. absurd (true≢false (sym never))), ((λ never. absurd (true≢false (sym never))), (c.second_weights_32.ensures, (omega arith, (omega arith, search rules))))),
+            ),
+          ),
+        ),
+      ),
+    )
 
 pub returns : goal.returns
 returns c =

@@ -23,5 +23,5 @@ returns g c =
     let small = order_small 1 c.args.rows.now c.args.i 0 c.requires.numbers in
     let means = means_are 1 0 c.args.shift numbers c.column_of_8.result.0 c.column_of_8.result.1 c.put_means.new.out (omega arith) (omega arith) small c.column_of_8.ensures.first c.column_of_8.ensures.second c.put_means.ensures in
     λ m below.
-        let place : 0 + m ≡ m = omega arith in
-        means.1 m below ∙ ap (column_mean 1 numbers c.args.shift) place
+    let place : 0 + m ≡ m = omega arith in
+    means.1 m below ∙ ap (column_mean 1 numbers c.args.shift) place

@@ -17,7 +17,7 @@ pub(crate) fn coding_order(
 ) -> Result<Vec<CodedPicture>, NoMemory>
     requires some { 1 ≤ count }
     requires most { count ≤ 64 }
-    requires few { levels ≤ most_levels }
+    requires levels_most { levels ≤ most_levels }
     ensures { IfOk result (λ order. map coded_as order.items ≡ coding count levels) }
 {
     let mut order = Vec::with_capacity(alloc, usize::from(count))?;
@@ -37,7 +37,7 @@ pub(crate) fn coding_order(
 fn push_blocks(order: &mut Vec<CodedPicture>, count: u8, levels: u8) -> Result<(), NoMemory>
     requires some { 2 ≤ count }
     requires most { count ≤ 64 }
-    requires few { levels ≤ most_levels }
+    requires levels_most { levels ≤ most_levels }
     ensures { OnOk result (map coded_as order.new.items ≡
         map coded_as order.old.items ++ blocks levels 0 (anchors count levels)) }
 {
@@ -54,7 +54,7 @@ fn push_blocks(order: &mut Vec<CodedPicture>, count: u8, levels: u8) -> Result<(
 fn push_block(order: &mut Vec<CodedPicture>, levels: u8, low: u8, high: u8) -> Result<(), NoMemory>
     requires rising { low ≤ high }
     requires most { high < 64 }
-    requires few { levels ≤ most_levels }
+    requires levels_most { levels ≤ most_levels }
     ensures { OnOk result (map coded_as order.new.items ≡
         map coded_as order.old.items ++ coded high 1 (low ∷ []) ∷ halves levels low high 2) }
 {
@@ -77,7 +77,7 @@ fn push_halves(
 ) -> Result<(), NoMemory>
     requires rising { low ≤ high }
     requires most { high < 64 }
-    requires few { depth + levels ≤ most_levels + 2 }
+    requires levels_most { depth + levels ≤ most_levels + 2 }
     ensures { OnOk result (map coded_as order.new.items ≡
         map coded_as order.old.items ++ halves levels low high depth) }
 {

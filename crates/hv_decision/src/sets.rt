@@ -47,7 +47,7 @@ fn lives(alloc: Global, order: &[CodedPicture]) -> Result<Vec<Life>, NoMemory>
 
 /// The lives by what is coded from a place on, from those by what is coded behind it.
 fn step_back(lives: &mut Vec<Life>, coded: &CodedPicture, place: u8)
-    requires few { length lives.old.items ≤ 64 }
+    requires most { length lives.old.items ≤ 64 }
     requires place { place < 64 }
     ensures count { length lives.new.items ≡ length lives.old.items }
     ensures each { (d : LifeSeen) (picture : ℕ) → picture < length lives.old.items →

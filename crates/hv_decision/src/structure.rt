@@ -42,7 +42,7 @@ impl Structure {
     pub fn of(alloc: Global, count: u8, levels: u8) -> Result<Self, NoMemory>
         requires some { 1 ≤ count }
         requires most { count ≤ 64 }
-        requires few { levels ≤ most_levels }
+        requires levels_most { levels ≤ most_levels }
         ensures { IfOk result (λ s. (s.count ≡ count) × (s.levels ≡ levels)) }
     {
         let coding = coding_order(alloc, count, levels)?;
@@ -68,7 +68,7 @@ impl Structure {
     /// How many temporal levels lie above the lowest.
     pub fn levels(&self) -> u8
         ensures value { result ≡ self.now.levels }
-        ensures few { result ≤ most_levels }
+        ensures most { result ≤ most_levels }
     {
         self.levels
     }
@@ -104,7 +104,7 @@ impl Structure {
         requires { k < self.now.count }
         ensures value { result ≡ (coded_of self.now.count self.now.levels k).depth }
         ensures most { result ≤ self.now.levels + 1 }
-        ensures few { result ≤ most_levels + 1 }
+        ensures most { result ≤ most_levels + 1 }
     {
         self.row(k).coded.depth
     }

@@ -34,7 +34,7 @@ pub fn intra_pred_angle(mode: u8) -> i8
     requires first { 2 ≤ mode }
     requires last { mode ≤ 34 }
     ensures value { result ≡ intraPredAngle mode }
-    ensures small { unsigned_abs result ≤ 32 }
+    ensures most { unsigned_abs result ≤ 32 }
 {
     INTRA_PRED_ANGLES[usize::from(mode - 2)]
 }
@@ -46,7 +46,7 @@ pub fn inv_angle(mode: u8) -> i16
     requires first { 11 ≤ mode }
     requires last { mode ≤ 25 }
     ensures value { result ≡ invAngle mode }
-    ensures small { unsigned_abs result ≤ 4096 }
+    ensures most { unsigned_abs result ≤ 4096 }
 {
     INV_ANGLES[usize::from(mode - 11)]
 }

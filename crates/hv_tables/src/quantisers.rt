@@ -24,7 +24,7 @@ static FACTORS: [u16; 6] = [26214, 23302, 20560, 18396, 16384, 14564];
 pub fn chroma_qp(qp: u8) -> u8
     requires { qp ≤ 51 }
     ensures value { result ≡ chroma_qp qp }
-    ensures small { result ≤ 45 }
+    ensures most { result ≤ 45 }
 {
     match qp {
         0..=29 => qp,
@@ -37,7 +37,7 @@ pub fn chroma_qp(qp: u8) -> u8
 #[inline(always)]
 pub fn level_scale(qp: u8) -> u8
     ensures value { result ≡ levelScale qp }
-    ensures small { result ≤ 72 }
+    ensures most { result ≤ 72 }
 {
     LEVEL_SCALES[usize::from(qp % 6)]
 }
@@ -47,7 +47,7 @@ pub fn level_scale(qp: u8) -> u8
 #[inline(always)]
 pub fn quantisation_factor(qp: u8) -> u16
     ensures value { result ≡ quantisation_factor qp }
-    ensures small { result ≤ 26214 }
+    ensures most { result ≤ 26214 }
 {
     FACTORS[usize::from(qp % 6)]
 }

@@ -58,7 +58,7 @@ impl GroupInput {
     /// The number of pictures.
     pub fn count(&self) -> u8
         ensures value { result ≡ length self.now.pictures }
-        ensures few { result ≤ self.now.config.group }
+        ensures group_most { result ≤ self.now.config.group }
         ensures most { result ≤ 64 }
     {
         self.pictures.len() as u8

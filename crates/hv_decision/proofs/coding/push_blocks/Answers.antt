@@ -11,12 +11,12 @@ pub loop-block-preserved : goal.loop-block-preserved
 loop-block-preserved c =
     blocks_step c.args.count c.args.levels c.loop-block.block (1 * 2 ^ c.args.levels % 256)
     (map coded_as c.loop-block.order.items) (map coded_as c.push_block.new.order.items) _
-    (step_is c.args.levels c.requires.few) c.loop-block-test.true c.loop-block.invariant
+    (step_is c.args.levels c.requires.levels_most) c.loop-block-test.true c.loop-block.invariant
     c.in_ok-push_block.ensures
 
 pub returns : goal.returns
 returns c =
     blocks_end c.args.count c.args.levels c.loop-block.block (1 * 2 ^ c.args.levels % 256)
     (map coded_as c.loop-block.order.items) (map coded_as c.push_block-2.new.order.items) _
-    (step_is c.args.levels c.requires.few) (omega arith) c.loop-block.invariant
+    (step_is c.args.levels c.requires.levels_most) (omega arith) c.loop-block.invariant
     c.in_ok-push_block-2.ensures

@@ -8,8 +8,8 @@ pub loop-place-init : goal.loop-place-init
 loop-place-init c = lives_begin c.args.order.now c.in_ok-lives.lives.items
     (c.in_ok-lives.ensures.items_if_clones_equal (λ y e. e))
 
-pub step_back-requires-clause-few : goal.step_back-requires-clause-few
-step_back-requires-clause-few c =
+pub step_back-requires-clause-most : goal.step_back-requires-clause-most
+step_back-requires-clause-most c =
     let many : length c.loop-place.lives.items ≡ length c.args.order.now =
     ap length c.loop-place.invariant ∙ lives_counted _ (length c.args.order.now) 0 in
     omega (arith, many, c.requires.most)

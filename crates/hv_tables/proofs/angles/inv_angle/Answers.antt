@@ -16,8 +16,8 @@ all_small : list_all is_small inverse_angles ≡ true
 unfolding is_small
 all_small = refl
 
-pub returns-clause-small : goal.returns-clause-small
+pub returns-clause-most : goal.returns-clause-most
 unfolding is_small
-returns-clause-small c =
+returns-clause-most c =
     leb-true _ _
     (AllPass-from_list_all is_small inverse_angles all_small c.from.result (pos 0) (omega (arith, c.from.ensures)))

@@ -22,7 +22,7 @@ fn words_of(alloc: Global, command: &str) -> Result<Option<Words>, NoMemory> {
 }
 
 /// The code of a command on so many bytes of input, where the read, the write and the line of these
-/// numbers fail.
+/// numbers fail. The end of the output counts as a write.
 fn code_of<R: Abort + Threads + Wait + Sync>(
     rt: &R,
     alloc: Global,
@@ -47,6 +47,8 @@ fn codes_of_runs(rt: HostRuntime) -> Result<(), Fail> {
         (COMMAND, 6144, [0, 9, 9], 3),
         (COMMAND, 6145, [9, 9, 9], 4),
         (COMMAND, 6144, [9, 0, 9], 5),
+        (COMMAND, 6144, [9, 1, 9], 5),
+        (COMMAND, 0, [9, 0, 9], 5),
         (COMMAND, 6144, [9, 9, 0], 8),
     ] {
         assert_eq!(rt; code_of(&rt, rt.alloc(), command, bytes, failing)?, code);

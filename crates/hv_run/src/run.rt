@@ -35,7 +35,8 @@ use std::thread::Threads;
 /// 8-bit 4:2:0, at most 400,000 pictures, each of which is a group of its own. A group is read,
 /// encoded and written before the next one is read. The gate isn't used yet, and no thread is
 /// started. The first refusal in the order of words, reading, encoding, writing and report ends the
-/// call.
+/// call. Behind the last write, and before the report, `out` is asked once for its end, also where
+/// nothing was written: a refusal there is `WriteFault`.
 ///
 /// A clause on `cfg` speaks of accepted words, which ask for these settings; one on `bytes` of a
 /// source that tells its bytes, and that had these left; one on `left` of a source that has these

@@ -140,7 +140,7 @@ fn inputs_of_all_lengths(rt: HostRuntime) -> Result<(), Fail> {
 }
 
 /// The number is that of the call that fails: two reads a picture and one behind them, and four
-/// writes of the first picture and one of the second.
+/// writes of the first picture, one of the second, and the end.
 #[test]
 #[rattlefmt::skip]
 fn calls_that_fail(rt: HostRuntime) -> Result<(), Fail> {
@@ -152,6 +152,7 @@ fn calls_that_fail(rt: HostRuntime) -> Result<(), Fail> {
         (9, 0, Status::WriteFault, 0, "write fault\n"),
         (9, 1, Status::WriteFault, 20, "write fault\n"),
         (9, 4, Status::WriteFault, 80, "write fault\n"),
+        (9, 5, Status::WriteFault, 92, "write fault\n"),
         (9, 9, Status::Ok, 92, "encoded 2 pictures in 2 groups, 92 bytes\n"),
     ] {
         let mut trial = trial_of(12288);

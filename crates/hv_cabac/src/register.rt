@@ -267,8 +267,8 @@ impl Register {
         self.put_bits(low, new_range(width, times), self.bits + times);
     }
 
-    /// Has the more probable part of the interval, which is the low one, or the other of width `lps`
-    /// (EncodeDecision).
+    /// Has the more probable part of the interval, which is the low one, or the other of width
+    /// `lps` (EncodeDecision).
     #[inline(always)]
     pub fn encode_decision(&mut self, lps: u32, is_mps: bool)
         requires least { 0 < lps }
@@ -294,8 +294,9 @@ impl Register {
         self.put_bits(low, self.range, self.bits + 1);
     }
 
-    /// Has the part of the interval in which the slice goes on, where the value is false. The bin that
-    /// ends the slice leaves the interval as it is: `flush` puts the last digits (EncodeTerminate).
+    /// Has the part of the interval in which the slice goes on, where the value is false. The bin
+    /// that ends the slice leaves the interval as it is: `flush` puts the last digits
+    /// (EncodeTerminate).
     #[inline(always)]
     pub fn encode_terminate(&mut self, value: bool)
         ensures goes_on { value ≡ false → self.new.failed ≡ false →

@@ -104,7 +104,7 @@ impl Structure {
         requires { k < self.now.count }
         ensures value { result ≡ (coded_of self.now.count self.now.levels k).depth }
         ensures most { result ≤ self.now.levels + 1 }
-        ensures most { result ≤ most_levels + 1 }
+        ensures depth_most { result ≤ most_levels + 1 }
     {
         self.row(k).coded.depth
     }

@@ -1,5 +1,5 @@
-//! What no clause says: that a structure comes out where there is memory, and known ones, which were
-//! worked by hand from the rule of halving.
+//! What no clause says: that a structure comes out where there is memory, and known ones, which
+//! were worked by hand from the rule of halving.
 
 ghost use Rattle.std.specs.Prelude.{◌<◌, length};
 

@@ -71,7 +71,8 @@ cut_to i c variables = record {
 
 abbrev pub advance : Interval → Bin → Interval
 advance i b =
-    cut_to i (cut i.variables i.range b.question b.value) (next_variables i.variables b.question b.value)
+    cut_to i (cut i.variables i.range b.question b.value)
+    (next_variables i.variables b.question b.value)
 
 -- true for the bin that ends a slice: a terminating bin that is true
 abbrev pub is_last : Question → Bool → Bool

@@ -34,7 +34,8 @@ if_in_range (Some d) = cond (nat_lt d.ivlOffset 510) (Some d) None
 abbrev pub begin_decoder : List ContextVariable → List ℕ → Option Decoder
 begin_decoder variables bits = if_in_range (read_bits 9 variables 510 0 bits)
 
--- renormalization (9.3.4.3.3): the range doubles until it has 256, and the offset takes as many bits
+-- renormalization (9.3.4.3.3): the range doubles until it has 256, and the offset takes as many
+-- bits
 abbrev pub renormalize : List ContextVariable → ℕ → ℕ → List ℕ → Option Decoder
 renormalize variables range offset bits =
     read_bits (shift_of range) variables (range * 2 ^ shift_of range) offset bits
@@ -47,7 +48,8 @@ with_value value (Some d) = Some (value, d)
 abbrev pub decode_decision : Decoder → Ctx → ℕ → Bool → Option (Bool × Decoder)
 decode_decision d context lps valMps =
     let after : Bool → List ContextVariable =
-    λ value. with_variable d.variables context (next_variable (variable_at d.variables context) value) in
+    λ value. with_variable d.variables context (next_variable
+    (variable_at d.variables context) value) in
     cond (nat_lt d.ivlOffset (d.ivlCurrRange - lps))
     (with_value valMps
     (renormalize (after valMps) (d.ivlCurrRange - lps) d.ivlOffset d.bits))

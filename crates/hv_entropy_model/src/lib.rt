@@ -1,6 +1,6 @@
-//! Context variables, the arithmetic decoder, and the code word of a list of bins (9.3) as definitions.
-//! They stand in `specs/`; the functions here are empty, and each carries a law of the definitions as
-//! its contract.
+//! Context variables, the arithmetic decoder, and the code word of a list of bins (9.3) as
+//! definitions. They stand in `specs/`; the functions here are empty, and each carries a law of the
+//! definitions as its contract.
 #![tactic(auto)]
 
 mod interval;

@@ -14,16 +14,18 @@ unfoldable pub sum_of_rows : (ℕ → ℕ) → ℕ → ℕ
 sum_of_rows of_row zero = 0
 sum_of_rows of_row (suc y) = sum_of_rows of_row y + of_row y
 
--- the sum of absolute differences of two blocks of so many columns and rows, each given by its samples and its stride: the
--- plain sum over the rows
+-- the sum of absolute differences of two blocks of so many columns and rows, each given by its
+-- samples and its stride: the plain sum over the rows
 abbrev pub sad_of_lists : List ℕ → ℕ → List ℕ → ℕ → ℕ → ℕ → ℕ
 sad_of_lists a a_stride b b_stride columns rows =
-    sum_of_rows (λ y. sad_of (row_of_block a a_stride columns y) (row_of_block b b_stride columns y)) rows
+    sum_of_rows (λ y. sad_of (row_of_block a a_stride columns y)
+    (row_of_block b b_stride columns y)) rows
 
 -- the sum of squared differences, likewise
 abbrev pub ssd_of_lists : List ℕ → ℕ → List ℕ → ℕ → ℕ → ℕ → ℕ
 ssd_of_lists a a_stride b b_stride columns rows =
-    sum_of_rows (λ y. ssd_of (row_of_block a a_stride columns y) (row_of_block b b_stride columns y)) rows
+    sum_of_rows (λ y. ssd_of (row_of_block a a_stride columns y)
+    (row_of_block b b_stride columns y)) rows
 
 -- the sum of absolute differences of the first rows of two blocks: the plain sum over these rows
 abbrev pub sad_of_rows : Pair → ℕ → ℕ

@@ -9,7 +9,8 @@ use crate::pair::Pair;
 use crate::rows::{add_gaps_of_four_rows, add_sad_of_rows, add_ssd_of_rows, sad_of_four_rows};
 use hv_types::Window;
 
-/// The sum of absolute differences of two blocks of 8 columns. It takes no memory and always answers.
+/// The sum of absolute differences of two blocks of 8 columns. It takes no memory and always
+/// answers.
 #[inline(always)]
 pub fn sad_block_8(blocks: Pair) -> u32
     requires { blocks.first.columns ≡ 8 }
@@ -25,7 +26,8 @@ pub fn sad_block_8(blocks: Pair) -> u32
     )
 }
 
-/// The sum of absolute differences of two blocks of 16 columns. It takes no memory and always answers.
+/// The sum of absolute differences of two blocks of 16 columns. It takes no memory and always
+/// answers.
 #[inline(always)]
 pub fn sad_block_16(blocks: Pair) -> u32
     requires { blocks.first.columns ≡ 16 }
@@ -41,7 +43,8 @@ pub fn sad_block_16(blocks: Pair) -> u32
     )
 }
 
-/// The sum of absolute differences of two blocks of 32 columns. It takes no memory and always answers.
+/// The sum of absolute differences of two blocks of 32 columns. It takes no memory and always
+/// answers.
 #[inline(always)]
 pub fn sad_block_32(blocks: Pair) -> u32
     requires { blocks.first.columns ≡ 32 }
@@ -57,7 +60,8 @@ pub fn sad_block_32(blocks: Pair) -> u32
     )
 }
 
-/// The sum of absolute differences of two blocks of 64 columns. It takes no memory and always answers.
+/// The sum of absolute differences of two blocks of 64 columns. It takes no memory and always
+/// answers.
 #[inline(always)]
 pub fn sad_block_64(blocks: Pair) -> u32
     requires { blocks.first.columns ≡ 64 }
@@ -73,7 +77,8 @@ pub fn sad_block_64(blocks: Pair) -> u32
     )
 }
 
-/// The sum of squared differences of two blocks of 8 columns. It takes no memory and always answers.
+/// The sum of squared differences of two blocks of 8 columns. It takes no memory and always
+/// answers.
 #[inline(always)]
 pub fn ssd_block_8(blocks: Pair) -> u32
     requires { blocks.first.columns ≡ 8 }
@@ -89,7 +94,8 @@ pub fn ssd_block_8(blocks: Pair) -> u32
     )
 }
 
-/// The sum of squared differences of two blocks of 16 columns. It takes no memory and always answers.
+/// The sum of squared differences of two blocks of 16 columns. It takes no memory and always
+/// answers.
 #[inline(always)]
 pub fn ssd_block_16(blocks: Pair) -> u32
     requires { blocks.first.columns ≡ 16 }
@@ -105,7 +111,8 @@ pub fn ssd_block_16(blocks: Pair) -> u32
     )
 }
 
-/// The sum of squared differences of two blocks of 32 columns. It takes no memory and always answers.
+/// The sum of squared differences of two blocks of 32 columns. It takes no memory and always
+/// answers.
 #[inline(always)]
 pub fn ssd_block_32(blocks: Pair) -> u32
     requires { blocks.first.columns ≡ 32 }
@@ -121,7 +128,8 @@ pub fn ssd_block_32(blocks: Pair) -> u32
     )
 }
 
-/// The sum of squared differences of two blocks of 64 columns. It takes no memory and always answers.
+/// The sum of squared differences of two blocks of 64 columns. It takes no memory and always
+/// answers.
 #[inline(always)]
 pub fn ssd_block_64(blocks: Pair) -> u32
     requires { blocks.first.columns ≡ 64 }
@@ -137,8 +145,9 @@ pub fn ssd_block_64(blocks: Pair) -> u32
     )
 }
 
-/// The sum of absolute differences of two blocks of N columns, each given by its samples and its stride,
-/// row by row. Like those below it takes its numbers one by one, which is faster than a struct of them.
+/// The sum of absolute differences of two blocks of N columns, each given by its samples and its
+/// stride, row by row. Like those below it takes its numbers one by one, which is faster than a
+/// struct of them.
 #[inline(never)]
 #[tactic(auto, using(crate::proofs::RowLemmas::sum_of_no_rows))]
 fn sad_by_rows<const N: usize>(
@@ -158,9 +167,9 @@ fn sad_by_rows<const N: usize>(
     add_sad_of_rows::<N>(0, 0, blocks)
 }
 
-/// The sum of absolute differences of two blocks of 16 columns, four rows a step. The number of rows comes
-/// by reference, since the compiler unrolls the loop where all callers pass one number, and then no longer
-/// finds the instruction that sums differences.
+/// The sum of absolute differences of two blocks of 16 columns, four rows a step. The number of
+/// rows comes by reference, since the compiler unrolls the loop where all callers pass one number,
+/// and then no longer finds the instruction that sums differences.
 #[inline(never)]
 #[tactic(auto, using(crate::proofs::RowLemmas::sum_of_no_rows))]
 fn sad_by_four_rows(a: &[u8], a_stride: usize, b: &[u8], b_stride: usize, rows: &usize) -> u32
@@ -178,8 +187,8 @@ fn sad_by_four_rows(a: &[u8], a_stride: usize, b: &[u8], b_stride: usize, rows: 
     add_sad_of_rows::<16>(sum, 4 * groups, blocks)
 }
 
-/// The sum of absolute differences of two blocks of 32 columns. The lanes are added up once, and not after
-/// each four rows.
+/// The sum of absolute differences of two blocks of 32 columns. The lanes are added up once, and
+/// not after each four rows.
 #[inline(never)]
 #[tactic(auto, using(crate::proofs::RowLemmas::sum_of_no_rows))]
 fn sad_by_lanes(a: &[u8], a_stride: usize, b: &[u8], b_stride: usize, rows: usize) -> u32

@@ -3,8 +3,8 @@ ghost use Rattle.std.specs.Prelude.{◌≡◌, ◌≤◌};
 
 use hv_types::Window;
 
-/// Two blocks of the same sides, each inside a plane of its own or of the same one. They have at most 64
-/// rows.
+/// Two blocks of the same sides, each inside a plane of its own or of the same one. They have at
+/// most 64 rows.
 #[derive(Clone, Copy, Debug)]
 pub struct Pair<'a> {
     pub first: Window<'a>,

@@ -71,9 +71,9 @@ fn put_four(rows: &[u8], width: usize, at: usize, out: &mut [u8])
 
 /// Makes a row of the quarter picture of four rows of luma samples.
 ///
-/// `rows` holds four rows of `width` samples, one after another, and `width` is a multiple of 4. `out`
-/// has a sample for each four columns, and each is written: the mean of a square of 4x4 samples, a
-/// half rounded up. It takes no memory and always answers.
+/// `rows` holds four rows of `width` samples, one after another, and `width` is a multiple of 4.
+/// `out` has a sample for each four columns, and each is written: the mean of a square of 4x4
+/// samples, a half rounded up. It takes no memory and always answers.
 pub fn decimate(rows: &[u8], width: u32, out: &mut [u8])
     requires squares { width % 4 ≡ 0 }
     requires four { length rows.now ≡ 4 * width }

@@ -50,8 +50,8 @@ pub(crate) fn add_ssd_of_rows<const N: usize>(sum: u32, from: usize, blocks: Pai
     sum
 }
 
-/// Adds the absolute differences of four rows from row `y` on to those of the rows before, each lane to
-/// the sum in its place.
+/// Adds the absolute differences of four rows from row `y` on to those of the rows before, each
+/// lane to the sum in its place.
 #[inline(always)]
 #[tactic(auto, using(crate::proofs::RowLemmas::sum_of_rows_more))]
 pub(crate) fn add_gaps_of_four_rows<const N: usize>(
@@ -82,7 +82,8 @@ fn four_rows(block: Window, y: usize) -> u8x64
     requires columns { block.columns ≡ 16 }
     requires inside { y + 4 ≤ block.rows }
     ensures { result ≡
-        (row_of block.entry y ++ row_of block.entry (y + 1)) ++ (row_of block.entry (y + 2) ++ row_of block.entry (y + 3)) }
+        (row_of block.entry y ++ row_of block.entry (y + 1)) ++
+        (row_of block.entry (y + 2) ++ row_of block.entry (y + 3)) }
 {
     let samples = block.samples;
     let stride = block.stride;

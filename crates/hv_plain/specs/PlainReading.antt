@@ -10,8 +10,8 @@ question_of (PlainBin context) = Context context
 question_of PlainBypass = Bypass
 question_of PlainEnd = Terminate
 
--- the decoder's answer; none once its offset is beyond its range, which is after the bin that ends the
--- slice alone
+-- the decoder's answer; none once its offset is beyond its range, which is after the bin that ends
+-- the slice alone
 abbrev pub answered : Decoder → Question → Option (Bool × Decoder)
 answered d question = cond (nat_lt d.ivlOffset d.ivlCurrRange) (decode d question) None
 

@@ -27,7 +27,8 @@ pub fn add(digits: &mut Vec<u8>, value: u32)
 /// Doubles the number so often: as many zeros more.
 pub fn double(digits: &mut Vec<u8>, times: u32) -> Result<(), AllocError>
     requires bits { All (λ d. d < 2) digits.old.items }
-    ensures number { OnOk result (number_of digits.new.items ≡ number_of digits.old.items * 2 ^ times) }
+    ensures number { OnOk result
+        (number_of digits.new.items ≡ number_of digits.old.items * 2 ^ times) }
     ensures count { OnOk result (length digits.new.items ≡ length digits.old.items + times) }
     ensures bits { OnOk result (All (λ d. d < 2) digits.new.items) }
 {

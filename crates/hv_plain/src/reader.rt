@@ -63,7 +63,8 @@ impl<'a> BinReader<'a> {
         qp: u8,
     ) -> Result<Option<BinReader<'a>>, AllocError>
         requires { length bytes.now < 2 ^ 32 }
-        ensures { IfOk result (λ r. r ≡ begin_decoder (first_variables kind qp) (bits_of bytes.now)) }
+        ensures { IfOk result
+            (λ r. r ≡ begin_decoder (first_variables kind qp) (bits_of bytes.now)) }
     {
         let variables = first_variables(alloc, kind, qp)?;
         match read_bits(bytes, 0, 9, 0) {
@@ -84,8 +85,8 @@ impl<'a> BinReader<'a> {
         }
     }
 
-    /// The value of the bin that is asked for, which is then read. None where the bits end, or where
-    /// the slice has ended; the reader is then as it was.
+    /// The value of the bin that is asked for, which is then read. None where the bits end, or
+    /// where the slice has ended; the reader is then as it was.
     pub fn answer(&mut self, question: Question) -> Option<bool>
         ensures { Answers (answered self.old (question_of question)) self.old self.new result }
     {
@@ -194,8 +195,8 @@ struct Place {
     offset: u32,
 }
 
-/// Where the decoder stands after renormalization (9.3.4.3.3), from a range and an offset within it;
-/// none where the bits end.
+/// Where the decoder stands after renormalization (9.3.4.3.3), from a range and an offset within
+/// it; none where the bits end.
 fn renormalized(bytes: &[u8], at: usize, range: u32, offset: u32) -> Option<Place>
     requires few { length bytes.now < 2 ^ 32 }
     requires within { at ≤ 8 * length bytes.now }

@@ -106,8 +106,8 @@ fn bits_end(rt: HostRuntime) -> Result<(), Fail> {
     Ok(())
 }
 
-/// The 120 digits of ⌊2^128 / 510⌋ + 1 as bypass bins, and sixteen zeros: the low end passes a power
-/// of two late, so that a carry runs back over more than ten bytes.
+/// The 120 digits of ⌊2^128 / 510⌋ + 1 as bypass bins, and sixteen zeros: the low end passes a
+/// power of two late, so that a carry runs back over more than ten bytes.
 #[test]
 fn long_carry_comes_back(rt: HostRuntime) -> Result<(), Fail> {
     let mut bins = Vec::new(rt.alloc());

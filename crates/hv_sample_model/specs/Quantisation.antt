@@ -1,5 +1,6 @@
--- The levels that the encoder gives the residual of a transform block: a forward transform, and quantisation. H.265
--- leaves both free. Functions over places, column and row, and the lists by rows that are made from them.
+-- The levels that the encoder gives the residual of a transform block: a forward transform, and
+-- quantisation. H.265 leaves both free. Functions over places, column and row, and the lists by
+-- rows that are made from them.
 use Rattle.std.specs.Prelude.{ℕ, ◌+◌, ◌-◌, ◌*◌, ◌/◌, ◌^◌, Bool, cond, List, map, ℤ, pos, neg_ℤ, ◌+ℤ◌, ◌*ℤ◌}
 use Rattle.std.specs.Int.{int_shr, is_negative}
 use Rattle.std.specs.Int.RustNames.{unsigned_abs}
@@ -29,7 +30,8 @@ coefficient log2 sample u v =
 abbrev pub transformed : ℕ → List ℤ → List ℤ
 transformed log2 residuals = square log2 (coefficient log2 (at_place log2 residuals))
 
--- what is added before the last division, in 512ths of a level: a third in intra units, a sixth in inter units
+-- what is added before the last division, in 512ths of a level: a third in intra units, a sixth in
+-- inter units
 abbrev pub offset_of_kind : Bool → ℕ
 offset_of_kind is_intra = cond is_intra 171 85
 
@@ -44,7 +46,8 @@ abbrev pub quantised : ℕ → ℕ → Bool → ℤ → ℤ
 quantised log2 qp is_intra c =
     let shift = quantisation_shift log2 qp in
     clip16 (with_sign_of c
-    ((unsigned_abs c * quantisation_factor qp + offset_of_kind is_intra * 2 ^ (shift - 9)) / 2 ^ shift))
+    ((unsigned_abs c * quantisation_factor qp + offset_of_kind is_intra * 2 ^
+    (shift - 9)) / 2 ^ shift))
 
 -- the levels of a block of residuals
 unfoldable pub levels : ℕ → ℕ → Bool → List ℤ → List ℤ

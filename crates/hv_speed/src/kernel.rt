@@ -102,8 +102,8 @@ impl Kernel {
         None
     }
 
-    /// Runs the kernel once, and gives its sum. The place and the round choose the blocks; a block has
-    /// as many rows as columns.
+    /// Runs the kernel once, and gives its sum. The place and the round choose the blocks; a block
+    /// has as many rows as columns.
     pub fn run(self, pictures: &mut Pictures, place: usize, round: u32) -> u64
         requires { place < 64 }
     {

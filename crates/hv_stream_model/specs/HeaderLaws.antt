@@ -50,7 +50,8 @@ VideoParametersAreCodable = (levels : ℕ) → levels ≤ most_levels → AllCod
 
 abbrev pub SequenceParametersAreCodable : Type 0
 SequenceParametersAreCodable =
-    (levels : ℕ) (size : Size) → levels ≤ most_levels → IsAllowed size → AllCodable (sps levels size)
+    (levels : ℕ) (size : Size) → levels ≤ most_levels → IsAllowed size →
+    AllCodable (sps levels size)
 
 abbrev pub PictureParametersAreCodable : Type 0
 PictureParametersAreCodable = AllCodable pps

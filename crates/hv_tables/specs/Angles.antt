@@ -23,7 +23,8 @@ intraPredAngle mode = slice_index_or angles (mode - 2) (pos 0)
 abbrev pub inverse_angles : List ℤ
 inverse_angles =
     -- 11 to 18
-    minus 4096 ∷ minus 1638 ∷ minus 910 ∷ minus 630 ∷ minus 482 ∷ minus 390 ∷ minus 315 ∷ minus 256 ∷
+    minus 4096 ∷ minus 1638 ∷ minus 910 ∷ minus 630 ∷ minus 482 ∷ minus 390 ∷ minus 315 ∷
+    minus 256 ∷
     -- 19 to 25
     minus 315 ∷ minus 390 ∷ minus 482 ∷ minus 630 ∷ minus 910 ∷ minus 1638 ∷ minus 4096 ∷ []
 

@@ -1,10 +1,12 @@
--- How the tables of the arithmetic decoder (9.3.4.3.2) come about. The standard prints their numbers
--- alone. The rule here is this project's own: it gives every number but those that are named.
+-- How the tables of the arithmetic decoder (9.3.4.3.2) come about. The standard prints their
+-- numbers alone. The rule here is this project's own: it gives every number but those that are
+-- named.
 use Rattle.std.specs.Prelude.{◌≡◌, ℕ, zero, suc, ◌+◌, ◌-◌, ◌*◌, ◌/◌, ◌^◌, ◌<◌, ◌≤◌, Bool, cond, nat_eq, nat_lt, min, max, ◌&&◌, ◌||◌, [], slice_index_or}
 use Rattle.hv_tables.specs.ArithmeticTables.{rangeTabLps, transIdxLps}
 
--- A pStateIdx stands for a probability of the less probable value. It is a half in state 0, and falls
--- from state to state by one factor, of which the 63rd power is 3/80. Both are in parts of 2^48.
+-- A pStateIdx stands for a probability of the less probable value. It is a half in state 0, and
+-- falls from state to state by one factor, of which the 63rd power is 3/80. Both are in parts of
+-- 2^48.
 abbrev pub factor : ℕ
 factor = 267180874843687
 
@@ -16,7 +18,8 @@ abbrev pub probability : ℕ → ℕ
 probability zero = 2 ^ 47
 probability (suc state) = probability state * factor / 2 ^ 48
 
--- ---- the width of the less probable part: the probability of 287.2 in the first quarter, and of 64
+-- ---- the width of the less probable part: the probability of 287.2 (fitted to the table: no
+-- standard gives it) in the first quarter, and of 64
 -- more in each quarter after it, to the nearest; 6 at least, and 128 at most in the first quarter
 
 abbrev pub nearest_width : ℕ → ℕ → ℕ
@@ -39,7 +42,8 @@ is_one_more state quarter = nat_eq state 20 && nat_eq quarter 3
 abbrev pub width_by_rule : ℕ → ℕ → ℕ
 width_by_rule state quarter =
     let width = clipped_width state quarter in
-    cond (is_one_less state quarter) (width - 1) (cond (is_one_more state quarter) (width + 1) width)
+    cond (is_one_less state quarter) (width - 1)
+    (cond (is_one_more state quarter) (width + 1) width)
 
 abbrev pub width_at : ℕ → ℕ → ℕ
 width_at state quarter = slice_index_or (slice_index_or rangeTabLps state []) quarter 0

@@ -2,8 +2,9 @@
 use Rattle.std.specs.Prelude.{◌≡◌, ℕ, ◌+◌, ◌-◌, ◌*◌, ◌/◌, ◌%◌, ◌<◌, Bool, cond, nat_eq, nat_lt, min, List, [], ◌∷◌, slice_index_or}
 use Rattle.hv_lemmas.specs.Booleans.{same}
 
--- rangeTabLps (9.3.4.3.2.1): the width of the less probable part of a range. A row for each pStateIdx,
--- which stands before it, and a column for each qRangeIdx, which is the quarter of the range.
+-- rangeTabLps (9.3.4.3.2.1): the width of the less probable part of a range. A row for each
+-- pStateIdx, which stands before it, and a column for each qRangeIdx, which is the quarter of the
+-- range.
 abbrev pub rangeTabLps : List (List ℕ)
 rangeTabLps =
     -- 0, 1, 2, 3

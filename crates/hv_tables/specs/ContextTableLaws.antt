@@ -32,8 +32,8 @@ HavePlaces =
 abbrev pub CoordinatesAreAlike : Type 0
 CoordinatesAreAlike = (kind : SliceKind) → initValue kind LastX ≡ initValue kind LastY
 
--- ---- sums, taken from the standard's tables: one number that is off changes the first, two that are
--- exchanged the second
+-- ---- sums, taken from the tables as they are printed: one number that is off changes the first,
+-- two that are exchanged the second
 abbrev pub plain_sum : List ℕ → ℕ
 plain_sum [] = 0
 plain_sum (x ∷ xs) = x + plain_sum xs

@@ -1,4 +1,5 @@
--- The context variables of each syntax element: their places, and the values that they start from (9.3.2.2).
+-- The context variables of each syntax element: their places, and the values that they start from
+-- (9.3.2.2).
 use Rattle.std.specs.Prelude.{ℕ, ◌+◌, ◌-◌, ◌<◌, List, [], ◌∷◌, ◌++◌, flat_map, length, replicate}
 use Rattle.hv_types.specs.declared.bins.SliceKind.{SliceKind}
 use Rattle.hv_types.specs.declared.bins.SliceKind.TheVariants.{I, P}
@@ -135,7 +136,8 @@ tables =
     MvdGreater0 ∷ MvdGreater1 ∷ MvpFlag ∷ RootCbf ∷ CbfLuma ∷ CbfChroma ∷ SaoMerge ∷ SaoType ∷
     LastX ∷ LastY ∷ CodedSub ∷ Sig ∷ Greater1 ∷ Greater2 ∷ []
 
--- one value for each variable of a table: a variable that the kind has no value for is never used, and stands at 154
+-- one value for each variable of a table: a variable that the kind has no value for is never used,
+-- and stands at 154
 abbrev pub values_of : SliceKind → CtxTable → List ℕ
 values_of kind table =
     initValue kind table ++ replicate (size_of table - length (initValue kind table)) 154

@@ -1,4 +1,5 @@
--- The quantisers of chroma (8.6.1), the factors of scaling (8.6.3), and the encoder's own factors of quantisation.
+-- The quantisers of chroma (8.6.1), the factors of scaling (8.6.3), and the encoder's own factors
+-- of quantisation.
 use Rattle.std.specs.Prelude.{ℕ, ◌-◌, ◌%◌, cond, nat_le, nat_lt, List, [], ◌∷◌, slice_index_or}
 
 -- QpC for qPi from 30 to 43
@@ -9,7 +10,8 @@ middle_quantisers =
 -- the quantiser of chroma, by that of luma
 abbrev pub chroma_qp : ℕ → ℕ
 chroma_qp qp =
-    cond (nat_lt qp 30) qp (cond (nat_le qp 43) (slice_index_or middle_quantisers (qp - 30) 0) (qp - 6))
+    cond (nat_lt qp 30) qp (cond (nat_le qp 43) (slice_index_or middle_quantisers (qp - 30) 0)
+    (qp - 6))
 
 -- levelScale, by QP % 6
 abbrev pub scales : List ℕ

@@ -1,5 +1,5 @@
--- The transform matrix (8.6.4.2). Its entries are those of cosines: one for each step of a turn of 128 steps, of which
--- the first quarter is listed.
+-- The transform matrix (8.6.4.2). Its entries are those of cosines: one for each step of a turn of
+-- 128 steps, of which the first quarter is listed.
 use Rattle.std.specs.Prelude.{ℕ, zero, suc, ◌+◌, ◌-◌, ◌*◌, ◌%◌, ◌^◌, cond, nat_le, nat_lt, List, [], ◌∷◌, slice_index_or, ℤ, pos, neg_ℤ}
 
 -- the entries at the steps 1 to 32
@@ -11,7 +11,8 @@ quarter_turn =
 abbrev pub in_quarter : ℕ → ℕ
 in_quarter step = slice_index_or quarter_turn (step - 1) 0
 
--- of a step from 1 to 63: falling in the first quarter, and mirrored with the other sign in the second
+-- of a step from 1 to 63: falling in the first quarter, and mirrored with the other sign in the
+-- second
 abbrev pub in_half : ℕ → ℤ
 in_half step = cond (nat_le step 32) (pos (in_quarter step)) (neg_ℤ (pos (in_quarter (64 - step))))
 

@@ -1,8 +1,8 @@
 //! The transform matrix (8.6.4.2), by rows and by columns.
 //!
 //! Row k is basis function k, a cosine of k half turns sampled at as many places as there are rows:
-//! about 90.5 times the cosine, and 64 throughout in row 0. A matrix of fewer rows has every so many
-//! rows of the greatest one, cut to their number.
+//! about 90.5 times the cosine, and 64 throughout in row 0. A matrix of fewer rows has every so
+//! many rows of the greatest one, cut to their number.
 ghost use Rattle.hv_tables.specs.Tables.{HasEntries};
 ghost use Rattle.hv_tables.specs.TransformMatrix.{transMatrix};
 ghost use Rattle.hv_tables.specs.MatrixLaws.{SecondRowOf32, SecondRowOf16, SecondRowOf8, SecondRowOf4, ThirdRowOf4};

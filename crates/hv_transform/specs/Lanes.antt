@@ -21,7 +21,8 @@ pub record FourLanes (f : ℕ → ℤ) (lanes : List ℤ) : Type 0 where
 abbrev pub quad : List ℤ → List ℤ → List ℤ → ℕ → ℤ
 quad a b w j =
     int_wrap w32
-    ((at a 0 *ℤ at w (2 * j)) +ℤ (at a 1 *ℤ at w (2 * j + 1)) +ℤ ((at b 0 *ℤ at w (8 + 2 * j)) +ℤ (at b 1 *ℤ at w (8 + 2 * j + 1))))
+    ((at a 0 *ℤ at w (2 * j)) +ℤ (at a 1 *ℤ at w (2 * j + 1)) +ℤ ((at b 0 *ℤ at w (8 + 2 * j)) +ℤ
+    (at b 1 *ℤ at w (8 + 2 * j + 1))))
 
 -- each has 16 bits
 abbrev pub Numbers : List ℤ → Type 0
@@ -52,13 +53,15 @@ column_sum log2 c n = sum_of (2 ^ log2) (λ k. transMatrix log2 k n *ℤ c k)
 
 -- its odd half, of the coefficients with odd numbers
 abbrev pub odd_sum : ℕ → (ℕ → ℤ) → ℕ → ℤ
-odd_sum half_log2 c n = sum_of (2 ^ half_log2) (λ k. transMatrix (half_log2 + 1) (2 * k + 1) n *ℤ c k)
+odd_sum half_log2 c n =
+    sum_of (2 ^ half_log2) (λ k. transMatrix (half_log2 + 1) (2 * k + 1) n *ℤ c k)
 
--- The order in which the 2^(d + 2) coefficients of a column stand: those with odd numbers first, then the odd ones of the
--- others, and so on, and four at the end.
+-- The order in which the 2^(d + 2) coefficients of a column stand: those with odd numbers first,
+-- then the odd ones of the others, and so on, and four at the end.
 abbrev pub in_order : ℕ → (ℕ → ℤ) → ℕ → ℤ
 in_order zero c k = c k
-in_order (suc d) c k = cond (nat_eq (k % 2) 1) (c (k / 2)) (in_order d (λ r. c (2 ^ (d + 2) + r)) (k / 2))
+in_order (suc d) c k =
+    cond (nat_eq (k % 2) 1) (c (k / 2)) (in_order d (λ r. c (2 ^ (d + 2) + r)) (k / 2))
 
 -- the weights of the four sums of a column of four
 abbrev pub HasEven : List ℤ → Type 0
@@ -66,12 +69,15 @@ HasEven weights = (j r : ℕ) → j < 4 → r < 4 → weight weights j r ≡ tra
 
 -- the weights of four places of an odd half, from place 4 g on, of four coefficients, from 4 q on
 abbrev pub HasOdd : ℕ → ℕ → ℕ → List ℤ → Type 0
-HasOdd log2 g q weights = (j r : ℕ) → j < 4 → r < 4 → weight weights j r ≡ transMatrix log2 (2 * (4 * q + r) + 1) (4 * g + j)
+HasOdd log2 g q weights =
+    (j r : ℕ) → j < 4 → r < 4 → weight weights j r ≡ transMatrix log2 (2 * (4 * q + r) + 1)
+    (4 * g + j)
 
 -- the weights of a side of 2^log2: those of four, and then the odd halves of each side up to it
 pub record HasWeights (log2 : ℕ) (table : List (List ℤ)) : Type 0 where
   pub even : HasEven (table_row table 0)
-  pub odd : (d g q : ℕ) → d + 3 ≤ log2 → g < 2 ^ d → q < 2 ^ d → HasOdd (d + 3) g q (table_row table ((4 ^ d + 2) / 3 + 2 ^ d * g + q))
+  pub odd : (d g q : ℕ) → d + 3 ≤ log2 → g < 2 ^ d → q < 2 ^ d →
+      HasOdd (d + 3) g q (table_row table ((4 ^ d + 2) / 3 + 2 ^ d * g + q))
   pub small : (i : ℕ) → Numbers (table_row table i)
 
 -- numbers of column i, from those of row p on, have 16 bits: so many
@@ -84,7 +90,8 @@ AreFew count rows i p = (r : ℕ) → 4 ≤ r → r < count → in_pairs rows i 
 
 -- sums of the products of 8 numbers, from those of row p on
 abbrev pub two_sums : List ℤ → List ℤ → List (List ℤ) → ℕ → ℕ → ℕ → ℤ
-two_sums first second rows i p j = lane_sum first rows i (2 * p) j +ℤ lane_sum second rows i (2 * (p + 2)) j
+two_sums first second rows i p j =
+    lane_sum first rows i (2 * p) j +ℤ lane_sum second rows i (2 * (p + 2)) j
 
 -- the numbers of column i from those of row p on
 abbrev pub numbers_from : List (List ℤ) → ℕ → ℕ → ℕ → ℤ
@@ -114,11 +121,13 @@ pub record IsOrder (d pairs : ℕ) (table : List (List ℕ)) : Type 0 where
 
 -- each pair rises, and has rows of a block of n rows
 abbrev pub ArePairs : ℕ → ℕ → List (List ℕ) → Type 0
-ArePairs pairs n table = (p : ℕ) → p < pairs → (entry_of table p 0 < entry_of table p 1) × (entry_of table p 1 < n)
+ArePairs pairs n table =
+    (p : ℕ) → p < pairs → (entry_of table p 0 < entry_of table p 1) × (entry_of table p 1 < n)
 
 -- in their first columns, rows have the rows of a block of n columns in pairs
 abbrev pub HasPairs : ℕ → ℕ → ℕ → List ℤ → List (List ℤ) → Type 0
-HasPairs d n columns block rows = (i r : ℕ) → i < columns → r < n → in_pairs rows i r ≡ at block (place d r * n + i)
+HasPairs d n columns block rows =
+    (i r : ℕ) → i < columns → r < n → in_pairs rows i r ≡ at block (place d r * n + i)
 
 -- the numbers behind the first eight rows of n columns are 0
 abbrev pub IsShort : ℕ → List ℤ → Type 0
@@ -137,4 +146,5 @@ column_mean d c shift n = clip16 (rounded (column_sum (d + 2) (in_order d c) n) 
 
 -- what a pass writes: row i has the means of column i
 abbrev pub pass_mean : ℕ → List (List ℤ) → ℕ → ℕ → ℤ
-pass_mean d rows shift k = column_mean d (numbers_from rows (k / 2 ^ (d + 2)) 0) shift (k % 2 ^ (d + 2))
+pass_mean d rows shift k =
+    column_mean d (numbers_from rows (k / 2 ^ (d + 2)) 0) shift (k % 2 ^ (d + 2))

@@ -1,5 +1,5 @@
--- What the passes of the two transforms write, place by place. A block has n columns, and place k of it is in
--- column k % n of row k / n.
+-- What the passes of the two transforms write, place by place. A block has n columns, and place k
+-- of it is in column k % n of row k / n.
 use Rattle.std.specs.Prelude.{◌≡◌, ℕ, ◌+◌, ◌*◌, ◌/◌, ◌%◌, ◌<◌, ◌≤◌, List, [], slice_index_or, ℤ, pos}
 use Rattle.std.specs.Int.RustNames.{unsigned_abs}
 use Rattle.hv_sample_model.specs.Blocks.{total_of}
@@ -27,8 +27,11 @@ block_by_table n table block k = dot_of n (table_row table (k % n)) (row_of n bl
 
 -- the sizes of the first n numbers of a row sum to so much at most
 abbrev pub WeighAtMost : ℕ → ℕ → List (List ℤ) → Type 0
-WeighAtMost n bound table = (i : ℕ) → i < n → total_of n (λ x. unsigned_abs (slice_index_or (table_row table i) x (pos 0))) ≤ bound
+WeighAtMost n bound table =
+    (i : ℕ) → i < n → total_of n (λ x. unsigned_abs (slice_index_or (table_row table i) x
+    (pos 0))) ≤ bound
 
 -- the first numbers of a list are so great at most, in size
 abbrev pub AreWithin : ℕ → ℕ → List ℤ → Type 0
-AreWithin count most numbers = (k : ℕ) → k < count → unsigned_abs (slice_index_or numbers k (pos 0)) ≤ most
+AreWithin count most numbers =
+    (k : ℕ) → k < count → unsigned_abs (slice_index_or numbers k (pos 0)) ≤ most

@@ -8,4 +8,5 @@ row_of n block y = take n (drop (y * n) block)
 
 -- the sum of the products of two rows of n numbers
 unfoldable pub dot_of : ℕ → List ℤ → List ℤ → ℤ
-dot_of n entries numbers = sum_of n (λ x. slice_index_or entries x (pos 0) *ℤ slice_index_or numbers x (pos 0))
+dot_of n entries numbers =
+    sum_of n (λ x. slice_index_or entries x (pos 0) *ℤ slice_index_or numbers x (pos 0))

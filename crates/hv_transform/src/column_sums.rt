@@ -1,8 +1,8 @@
 //! Sums over columns of coefficients, in even and odd halves.
 //!
-//! The rows have pairs of coefficients, in the order that `in_order` says. The sums of 2m places use those
-//! of m places for the coefficients with even numbers: place n is the sum of both halves, and place
-//! 2m - 1 - n their difference.
+//! The rows have pairs of coefficients, in the order that `in_order` says. The sums of 2m places
+//! use those of m places for the coefficients with even numbers: place n is the sum of both halves,
+//! and place 2m - 1 - n their difference.
 ghost use Rattle.std.specs.Prelude.{ℕ, Bool, true, ◌+◌, ◌*◌, ◌≡◌, ◌<◌, ◌≤◌, length, ◌+ℤ◌};
 ghost use Rattle.hv_transform.specs.Passes.{table_row};
 ghost use Rattle.hv_transform.specs.Lanes.{Numbers, FourLanes, HaveBits, AreFew, two_sums, numbers_from, ColumnSums, HasWeights};
@@ -10,8 +10,8 @@ ghost use Rattle.hv_transform.specs.Lanes.{Numbers, FourLanes, HaveBits, AreFew,
 use crate::lanes::{lane_sums, mirrored_differences, sums};
 use std::simd::prelude::*;
 
-/// Sums of the products of 8 numbers of column i, from those of row p on. The last four are 0 if they
-/// are few.
+/// Sums of the products of 8 numbers of column i, from those of row p on. The last four are 0 if
+/// they are few.
 #[inline(always)]
 fn sums_of_8<const W: usize, const P: usize, const FEW: bool>(
     rows: &[[i16; W]; P],
@@ -40,8 +40,8 @@ fn sums_of_8<const W: usize, const P: usize, const FEW: bool>(
     }
 }
 
-/// Sums of the products of 16 numbers of column i, from those of row p on. All but four are 0 if they
-/// are few.
+/// Sums of the products of 16 numbers of column i, from those of row p on. All but four are 0 if
+/// they are few.
 #[inline(always)]
 fn sums_of_16<const W: usize, const P: usize, const FEW: bool>(
     rows: &[[i16; W]; P],

@@ -27,7 +27,8 @@ fn transform_rows<const N: usize>(
     requires block { length residual.now ≡ N * N }
     requires range { AreWithin (N * N) 255 residual.now }
     requires room { length out.old ≡ N * N }
-    ensures { HasFirst (N * N) (λ k. rounded (table_by_block N rows.now residual.now k) shift) out.new }
+    ensures { HasFirst (N * N)
+        (λ k. rounded (table_by_block N rows.now residual.now k) shift) out.new }
 {
     for u in 0..N {
         let entries = &rows[u];
@@ -51,7 +52,8 @@ fn transform_columns<const N: usize>(
     requires small { shift ≤ 12 }
     requires block { length halfway.now ≡ N * N }
     requires room { length out.old ≡ N * N }
-    ensures { HasFirst (N * N) (λ k. rounded (table_by_block N rows.now halfway.now k) shift) out.new }
+    ensures { HasFirst (N * N)
+        (λ k. rounded (table_by_block N rows.now halfway.now k) shift) out.new }
 {
     for v in 0..N {
         let entries = &rows[v];
@@ -89,8 +91,8 @@ fn forward_of<const N: usize, const AREA: usize>(
 
 /// The transform coefficients of a block of residual samples.
 ///
-/// Both slices have 4^log2 members, by rows, and log2 is 2 to 5. A residual sample is a difference of
-/// two samples of 8 bits. Each coefficient has 16 bits.
+/// Both slices have 4^log2 members, by rows, and log2 is 2 to 5. A residual sample is a difference
+/// of two samples of 8 bits. Each coefficient has 16 bits.
 pub fn forward(residual: &[i16], log2: u8, out: &mut [i32])
     requires least { 2 ≤ log2 }
     requires greatest { log2 ≤ 5 }

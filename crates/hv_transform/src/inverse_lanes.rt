@@ -1,7 +1,7 @@
 //! The inverse transform of blocks of 8, 16 and 32 columns, in lanes.
 //!
-//! Where all coefficients lie in the first eight columns and rows, as most do, the first pass goes over
-//! eight columns, and both passes leave out the products of coefficients that are 0.
+//! Where all coefficients lie in the first eight columns and rows, as most do, the first pass goes
+//! over eight columns, and both passes leave out the products of coefficients that are 0.
 ghost use Rattle.std.specs.Prelude.{ℕ, ◌+◌, ◌*◌, ◌≡◌, ◌<◌, ◌≤◌, length, pos};
 ghost use Rattle.hv_sample_model.specs.InverseTransform.{inverse_transformed};
 ghost use Rattle.hv_transform.specs.Ranges.{Have16Bits};
@@ -51,7 +51,8 @@ fn whole_16(block: &[i16], out: &mut [i16])
     pass_16::<40, false>(&turned, second_weights_16(), 16, 12, out);
 }
 
-/// The first pass over the first eight columns of 16, whose coefficients with numbers from 8 on are 0.
+/// The first pass over the first eight columns of 16, whose coefficients with numbers from 8 on are
+/// 0.
 #[inline(always)]
 fn first_columns_16(rows: &[[i16; 40]; 8], out: &mut [i16])
     requires numbers { (i : ℕ) → i < 8 → HaveBits 16 rows.now i 0 }
@@ -117,7 +118,8 @@ fn whole_32(block: &[i16], out: &mut [i16])
     pass_32::<72, false>(&turned, second_weights_32(), 32, 12, out);
 }
 
-/// The first pass over the first eight columns of 32, whose coefficients with numbers from 8 on are 0.
+/// The first pass over the first eight columns of 32, whose coefficients with numbers from 8 on are
+/// 0.
 #[inline(always)]
 fn first_columns_32(rows: &[[i16; 72]; 16], out: &mut [i16])
     requires numbers { (i : ℕ) → i < 8 → HaveBits 32 rows.now i 0 }

@@ -1,7 +1,7 @@
 //! The passes of the inverse transform, over rows that have coefficients in pairs.
 //!
-//! Row i of what a pass writes has the means of the sums over column i: so the second pass takes what
-//! the first wrote as it stands, and writes the rows of the residual.
+//! Row i of what a pass writes has the means of the sums over column i: so the second pass takes
+//! what the first wrote as it stands, and writes the rows of the residual.
 ghost use Rattle.std.specs.Prelude.{ℕ, Bool, true, ◌+◌, ◌*◌, ◌≡◌, ◌<◌, ◌≤◌, length};
 ghost use Rattle.hv_transform.specs.Passes.{HasFirst};
 ghost use Rattle.hv_transform.specs.Lanes.{HaveBits, AreFew, HasWeights, numbers_from, column_mean, pass_mean};
@@ -31,8 +31,8 @@ fn row_of_8<const W: usize>(
     put_means(first, second, shift, out);
 }
 
-/// The means of the sums over column i of 16. If they are few, the coefficients with numbers from 8 on
-/// are 0.
+/// The means of the sums over column i of 16. If they are few, the coefficients with numbers from 8
+/// on are 0.
 #[inline(always)]
 fn row_of_16<const W: usize, const FEW: bool>(
     rows: &[[i16; W]; 8],
@@ -56,8 +56,8 @@ fn row_of_16<const W: usize, const FEW: bool>(
     put_means(third, fourth, shift, &mut out[8..16]);
 }
 
-/// The means of the sums over column i of 32. If they are few, the coefficients with numbers from 8 on
-/// are 0.
+/// The means of the sums over column i of 32. If they are few, the coefficients with numbers from 8
+/// on are 0.
 #[inline(always)]
 fn row_of_32<const W: usize, const FEW: bool>(
     rows: &[[i16; W]; 16],
@@ -114,7 +114,8 @@ pub(crate) fn pass_8<const W: usize>(
     row_of_8(rows, 7, table, shift, &mut out[56..64]);
 }
 
-/// A pass over the first columns of 16. If they are few, the coefficients with numbers from 8 on are 0.
+/// A pass over the first columns of 16. If they are few, the coefficients with numbers from 8 on
+/// are 0.
 #[inline(never)]
 pub(crate) fn pass_16<const W: usize, const FEW: bool>(
     rows: &[[i16; W]; 8],
@@ -138,7 +139,8 @@ pub(crate) fn pass_16<const W: usize, const FEW: bool>(
     }
 }
 
-/// A pass over the first columns of 32. If they are few, the coefficients with numbers from 8 on are 0.
+/// A pass over the first columns of 32. If they are few, the coefficients with numbers from 8 on
+/// are 0.
 #[inline(never)]
 pub(crate) fn pass_32<const W: usize, const FEW: bool>(
     rows: &[[i16; W]; 16],

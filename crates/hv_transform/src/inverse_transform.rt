@@ -36,7 +36,8 @@ fn transform_columns<const N: usize>(columns: &[[i8; N]; N], turned: &[i16], out
     requires few { N ≤ 32 }
     requires block { length turned.now ≡ N * N }
     requires room { length out.old ≡ N * N }
-    ensures { HasFirst (N * N) (λ k. clip16 (rounded (table_by_block N columns.now turned.now k) 7)) out.new }
+    ensures { HasFirst (N * N)
+        (λ k. clip16 (rounded (table_by_block N columns.now turned.now k) 7)) out.new }
 {
     for y in 0..N {
         let entries = &columns[y];
@@ -55,7 +56,8 @@ fn transform_rows<const N: usize>(columns: &[[i8; N]; N], halfway: &[i16], out: 
     requires block { length halfway.now ≡ N * N }
     requires range { AreWithin (N * N) 32768 halfway.now }
     requires room { length out.old ≡ N * N }
-    ensures { HasFirst (N * N) (λ k. rounded (block_by_table N columns.now halfway.now k) 12) out.new }
+    ensures { HasFirst (N * N)
+        (λ k. rounded (block_by_table N columns.now halfway.now k) 12) out.new }
 {
     for y in 0..N {
         let numbers = row(halfway, y);
@@ -94,8 +96,8 @@ fn inverse_of<const N: usize, const AREA: usize>(
 
 /// The residual of a block of scaled coefficients (8.6.4.2).
 ///
-/// Both slices have 4^log2 members, by rows, and log2 is 2 to 5. Coefficients have 16 bits. The sums
-/// of the columns are clipped to 16 bits; those of the rows have 16 bits by themselves.
+/// Both slices have 4^log2 members, by rows, and log2 is 2 to 5. Coefficients have 16 bits. The
+/// sums of the columns are clipped to 16 bits; those of the rows have 16 bits by themselves.
 pub fn inverse(coefficients: &[i32], log2: u8, out: &mut [i16])
     requires least { 2 ≤ log2 }
     requires greatest { log2 ≤ 5 }

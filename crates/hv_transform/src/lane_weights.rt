@@ -1,13 +1,14 @@
 //! The weights of the inverse transform, as its sums in lanes take them (8.6.4.2).
 //!
 //! A row of 16 weights is for four places and four coefficients: weight 2 j + r of each half is for
-//! place j, and for coefficient r of two. The first row has the matrix of four rows. Then come the odd
-//! halves of 8, 16 and 32 rows, up to the side of the table: before each row stand the side, the first of its
-//! four places, and the first of its coefficients, which are those with odd numbers in order.
+//! place j, and for coefficient r of two. The first row has the matrix of four rows. Then come the
+//! odd halves of 8, 16 and 32 rows, up to the side of the table: before each row stand the side,
+//! the first of its four places, and the first of its coefficients, which are those with odd
+//! numbers in order.
 //!
-//! The last row is the shift of the pass. Each pass has a table of its own, since the compiler would
-//! widen the weights of a table that both have outside the loop over the columns, and the multiplication
-//! of pairs would be lost.
+//! The last row is the shift of the pass. Each pass has a table of its own, since the compiler
+//! would widen the weights of a table that both have outside the loop over the columns, and the
+//! multiplication of pairs would be lost.
 ghost use Rattle.std.specs.Prelude.{◌≡◌, ℤ, pos, replicate};
 ghost use Rattle.hv_transform.specs.Passes.{table_row};
 ghost use Rattle.hv_transform.specs.Lanes.{HasWeights};

@@ -40,7 +40,8 @@ fn pair_of<const W: usize>(row: &[i16; W], i: usize) -> &[i16; 2]
     &pairs[0]
 }
 
-/// Sums of the products of four numbers of column i, those of the rows p and p + 1, which have pairs.
+/// Sums of the products of four numbers of column i, those of the rows p and p + 1, which have
+/// pairs.
 #[inline(always)]
 pub(crate) fn lane_sums<const W: usize, const P: usize>(
     rows: &[[i16; W]; P],

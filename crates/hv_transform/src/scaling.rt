@@ -62,8 +62,8 @@ fn whole_factor(qp: u8) -> u32
 
 /// Scales the levels of a block to transform coefficients (8.6.3).
 ///
-/// `levels` are those of a block of 2^log2 columns, log2 is 2 to 5, and `qp` is the quantiser of its
-/// component, 0 to 51. `out` has as many members. Each coefficient is clipped to 16 bits.
+/// `levels` are those of a block of 2^log2 columns, log2 is 2 to 5, and `qp` is the quantiser of
+/// its component, 0 to 51. `out` has as many members. Each coefficient is clipped to 16 bits.
 pub fn scale(levels: &[i16], log2: u8, qp: u8, out: &mut [i32])
     requires least { 2 ≤ log2 }
     requires greatest { log2 ≤ 5 }
@@ -139,9 +139,9 @@ fn is_other_than_0(level: i16) -> bool
 
 /// The levels of a block of transform coefficients, as the encoder chooses them.
 ///
-/// `coefficients` are those of a block of 2^log2 columns, log2 is 2 to 5, and each has 16 bits. `qp`
-/// is the quantiser of its component, 0 to 51, and `intra` tells whether its unit is intra. `out` has
-/// as many members. The answer is whether a level isn't 0.
+/// `coefficients` are those of a block of 2^log2 columns, log2 is 2 to 5, and each has 16 bits.
+/// `qp` is the quantiser of its component, 0 to 51, and `intra` tells whether its unit is intra.
+/// `out` has as many members. The answer is whether a level isn't 0.
 pub fn quantise(coefficients: &[i32], log2: u8, qp: u8, intra: bool, out: &mut [i16]) -> bool
     requires least { 2 ≤ log2 }
     requires greatest { log2 ≤ 5 }

@@ -211,8 +211,8 @@ pub(crate) fn is_corner<const N: usize>(block: &[i16]) -> bool
     are_all_zero(&block[8 * N..N * N]) && are_narrow::<N>(block)
 }
 
-/// The rows of a block of N columns in pairs, in their first columns. If the rows are few, all behind
-/// the first eight are 0, and so are those of `out` before.
+/// The rows of a block of N columns in pairs, in their first columns. If the rows are few, all
+/// behind the first eight are 0, and so are those of `out` before.
 #[inline(always)]
 pub(crate) fn weave<const N: usize, const W: usize, const P: usize, const FEW: bool>(
     block: &[i16],

@@ -1,5 +1,5 @@
--- Blocks in planes. A plane is given by its samples, from the block's upper left one on, and by its stride: how many samples
--- lie from the start of one row to the start of the next.
+-- Blocks in planes. A plane is given by its samples, from the block's upper left one on, and by its
+-- stride: how many samples lie from the start of one row to the start of the next.
 use Rattle.std.specs.Prelude.{ℕ, ◌+◌, ◌*◌, ◌<◌, ◌≤◌, List, length, take, drop}
 
 -- row y of a block of so many columns

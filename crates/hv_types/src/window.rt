@@ -5,9 +5,9 @@ ghost use Rattle.hv_types.specs.Windows.{HoldsBlock, row_of_block};
 
 use crate::Plane;
 
-/// A block of `columns` and `rows` in a plane. `samples` are the plane's from the block's upper left one
-/// on, and `stride` is the number of samples from the start of one row to the start of the next. Every
-/// row of the block is there whole.
+/// A block of `columns` and `rows` in a plane. `samples` are the plane's from the block's upper
+/// left one on, and `stride` is the number of samples from the start of one row to the start of the
+/// next. Every row of the block is there whole.
 #[derive(Clone, Copy, Debug)]
 pub struct Window<'a> {
     pub samples: &'a [u8],
@@ -22,7 +22,8 @@ impl<'a> Window<'a> {
     #[inline(always)]
     pub fn row(self, y: usize) -> &'a [u8]
         requires { y < self.rows }
-        ensures { result.now ≡ row_of_block self.entry.samples.now self.entry.stride self.entry.columns y }
+        ensures { result.now ≡
+            row_of_block self.entry.samples.now self.entry.stride self.entry.columns y }
     {
         let at = y * self.stride;
         &self.samples[at..at + self.columns]
@@ -32,8 +33,8 @@ impl<'a> Window<'a> {
 impl Plane {
     ghost use Rattle.std.specs.Prelude.{◌*◌, ◌<◌, drop};
 
-    /// The block of `columns` and `rows` whose upper left sample is in column `x` of row `y`, all of it in
-    /// the plane. It has a row at least.
+    /// The block of `columns` and `rows` whose upper left sample is in column `x` of row `y`, all
+    /// of it in the plane. It has a row at least.
     pub fn window(&self, x: u32, y: u32, columns: u32, rows: u32) -> Window<'_>
         requires some { 0 < rows }
         requires across { x + columns ≤ self.now.width }

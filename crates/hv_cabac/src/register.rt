@@ -32,7 +32,7 @@ fn add_carry(out: &mut [u8])
 
 /// Adds the carry that came into the eight digits of `lead`.
 fn put_carry(out: &mut Vec<u8>, lead: u64)
-    requires small { lead < 512 }
+    requires most { lead < 512 }
     ensures more { number out.old.items + lead / 256 < 256 ^ length out.old.items →
         number out.new.items ≡ number out.old.items + lead / 256 }
     ensures length { length out.new.items ≡ length out.old.items }
@@ -47,7 +47,7 @@ fn put_carry(out: &mut Vec<u8>, lead: u64)
 fn put_byte(out: &mut Vec<u8>, low: u64, bits: u32) -> bool
     requires least { 8 ≤ bits }
     requires most { bits ≤ 32 }
-    requires small { 2 * low < 3 * 2 ^ bits }
+    requires low_most { 2 * low < 3 * 2 ^ bits }
     ensures length { result ≡ true → length out.new.items ≡ length out.old.items + 1 }
     ensures same { result ≡ true → HasRoom out.old.items bits low →
         total out.new.items (bits - 8) (low % 2 ^ (bits - 8)) ≡ total out.old.items bits low }
@@ -65,7 +65,7 @@ fn doublings(width: u32) -> u32
     ensures shift { result ≡ shift_of width }
     ensures most { result ≤ 8 }
     ensures wide { 256 ≤ width * 2 ^ result }
-    ensures narrow { width * 2 ^ result ≤ 510 }
+    ensures result_most { width * 2 ^ result ≤ 510 }
 {
     width.leading_zeros() - 23
 }
@@ -74,7 +74,7 @@ fn doublings(width: u32) -> u32
 #[inline(always)]
 fn new_range(width: u32, times: u32) -> u32
     requires most { times ≤ 8 }
-    requires narrow { width * 2 ^ times ≤ 510 }
+    requires width_most { width * 2 ^ times ≤ 510 }
     ensures { result ≡ width * 2 ^ times }
 {
     width << times
@@ -84,10 +84,10 @@ fn new_range(width: u32, times: u32) -> u32
 #[inline(always)]
 fn new_low(low: u64, range: u32, bits: u32, skip: u32, width: u32, times: u32) -> u64
     requires most { bits + times ≤ 25 }
-    requires small { 2 * (low + range) ≤ 3 * 2 ^ bits }
+    requires low_most { 2 * (low + range) ≤ 3 * 2 ^ bits }
     requires inside { skip + width ≤ range }
     ensures value { result ≡ (low + skip) * 2 ^ times }
-    ensures small { 2 * (result + width * 2 ^ times) ≤ 3 * 2 ^ (bits + times) }
+    ensures most { 2 * (result + width * 2 ^ times) ≤ 3 * 2 ^ (bits + times) }
 {
     (low + u64::from(skip)) << times
 }
@@ -97,9 +97,9 @@ fn new_low(low: u64, range: u32, bits: u32, skip: u32, width: u32, times: u32) -
 fn rest_of(low: u64, range: u32, bits: u32) -> u64
     requires least { 18 ≤ bits }
     requires most { bits ≤ 25 }
-    requires narrow { range ≤ 510 }
+    requires range_most { range ≤ 510 }
     ensures value { result ≡ low % 2 ^ (bits - 8) }
-    ensures small { 2 * (result + range) ≤ 3 * 2 ^ (bits - 8) }
+    ensures most { 2 * (result + range) ≤ 3 * 2 ^ (bits - 8) }
 {
     low % (1 << (bits - 8))
 }
@@ -117,10 +117,10 @@ fn skip_of(range: u32, value: bool) -> u32
 #[inline(always)]
 fn bypass_low(low: u64, range: u32, bits: u32, skip: u32) -> u64
     requires most { bits ≤ 17 }
-    requires small { 2 * (low + range) ≤ 3 * 2 ^ bits }
+    requires low_most { 2 * (low + range) ≤ 3 * 2 ^ bits }
     requires inside { skip ≤ range }
     ensures value { result ≡ low * 2 + skip }
-    ensures small { 2 * (result + range) ≤ 3 * 2 ^ (bits + 1) }
+    ensures most { 2 * (result + range) ≤ 3 * 2 ^ (bits + 1) }
 {
     low * 2 + u64::from(skip)
 }
@@ -143,9 +143,9 @@ fn last_of(low: u64, range: u32, bits: u32, pad: u32) -> u64
     requires wide { 256 ≤ range }
     requires most { bits ≤ 17 }
     requires pad { pad ≤ 7 }
-    requires small { 2 * (low + range) ≤ 3 * 2 ^ bits }
+    requires low_most { 2 * (low + range) ≤ 3 * 2 ^ bits }
     ensures value { result ≡ odd_from (low + range - 2) * 2 ^ pad }
-    ensures small { 2 * result < 3 * 2 ^ (bits + pad) }
+    ensures most { 2 * result < 3 * 2 ^ (bits + pad) }
 {
     last_digits(low, range) << pad
 }
@@ -155,7 +155,7 @@ fn last_of(low: u64, range: u32, bits: u32, pad: u32) -> u64
 fn low_digits(low: u64, bits: u32) -> u64
     requires most { bits ≤ 24 }
     ensures value { result ≡ low % 2 ^ bits }
-    ensures small { result < 2 ^ bits }
+    ensures most { result < 2 ^ bits }
 {
     low % (1 << bits)
 }
@@ -165,7 +165,7 @@ fn put_rest(out: &mut Vec<u8>, low: u64, bits: u32) -> Result<(), NoMemory>
     requires least { 8 ≤ bits }
     requires most { bits ≤ 24 }
     requires whole { bits % 8 ≡ 0 }
-    requires small { 2 * low < 3 * 2 ^ bits }
+    requires low_most { 2 * low < 3 * 2 ^ bits }
     ensures length { OnOk result (8 * length out.new.items ≡ 8 * length out.old.items + bits) }
     ensures bytes { OnOk result ((i d : ℕ) → i < length out.new.items →
         slice_index_or out.new.items i d < 256) }
@@ -237,10 +237,10 @@ impl Register {
     #[inline(always)]
     fn put_bits(&mut self, low: u64, range: u32, bits: u32)
         requires wide { 256 ≤ range }
-        requires narrow { range ≤ 510 }
+        requires range_most { range ≤ 510 }
         requires least { 9 ≤ bits }
         requires most { bits ≤ 25 }
-        requires small { 2 * (low + range) ≤ 3 * 2 ^ bits }
+        requires low_most { 2 * (low + range) ≤ 3 * 2 ^ bits }
         ensures { self.new.failed ≡ false → PutsBits self.old self.new low range bits }
     {
         self.range = range;

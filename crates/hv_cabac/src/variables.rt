@@ -13,7 +13,7 @@ use hv_types::SliceKind;
 /// How steeply a variable's start falls or rises with the quantiser (9.3.2.2).
 fn slope(init_value: u8) -> i32
     ensures value { result ≡ slope_of init_value }
-    ensures small { unsigned_abs result ≤ 45 }
+    ensures most { unsigned_abs result ≤ 45 }
 {
     i32::from(init_value / 16 * 5) - 45
 }
@@ -21,7 +21,7 @@ fn slope(init_value: u8) -> i32
 /// Where a variable's start stands at quantiser 0 (9.3.2.2).
 fn offset(init_value: u8) -> i32
     ensures value { result ≡ offset_of init_value }
-    ensures small { unsigned_abs result ≤ 104 }
+    ensures most { unsigned_abs result ≤ 104 }
 {
     i32::from(init_value % 16 * 8) - 16
 }

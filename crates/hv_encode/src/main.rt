@@ -9,7 +9,7 @@ mod tests;
 
 use crate::arguments::words_behind_name;
 use crate::exit::encode_to_exit;
-use hv_types::{StandardOutput, StdSink, StdSource};
+use hv_types::{StdSink, StdSource};
 use std::env;
 use std::process::ExitCode;
 
@@ -25,7 +25,7 @@ fn main(rt: HostRuntime) -> ExitCode {
         return ExitCode::from(NO_ARGUMENTS);
     };
     let mut source = StdSource::new(rt.stdin());
-    let mut out = StandardOutput::new(rt.stdout());
+    let mut out = StdSink::new(rt.stdout());
     let mut report = StdSink::new(rt.stderr());
     let code = encode_to_exit(&rt, alloc, &words, &mut source, &mut out, &mut report);
     ExitCode::from(code)

@@ -17,7 +17,7 @@ impl Side {
     pub(crate) fn count(self) -> usize
         ensures value { result ≡ 2 ^ self.log2 }
         ensures some { 4 ≤ result }
-        ensures few { result ≤ 32 }
+        ensures most { result ≤ 32 }
     {
         1 << self.log2
     }

@@ -11,7 +11,7 @@ use crate::neighbours::Neighbours;
 fn product(weight: u16, sample: u8) -> u16
     requires { weight ≤ 32 }
     ensures value { result ≡ weight * sample }
-    ensures small { result ≤ 32 * 255 }
+    ensures most { result ≤ 32 * 255 }
 {
     weight * u16::from(sample)
 }

@@ -27,7 +27,7 @@ impl AngularMode {
     fn way(self, across: usize) -> i32
         requires { across < 32 }
         ensures value { result ≡ pos (across + 1) *ℤ intraPredAngle self.number }
-        ensures small { unsigned_abs result ≤ 1024 }
+        ensures most { unsigned_abs result ≤ 1024 }
     {
         (across as i32 + 1) * i32::from(intra_pred_angle(self.number))
     }
@@ -37,7 +37,7 @@ impl AngularMode {
     fn shift(self, across: usize) -> i32
         requires { across < 32 }
         ensures value { result ≡ shift self.number across }
-        ensures small { unsigned_abs result ≤ 32 }
+        ensures most { unsigned_abs result ≤ 32 }
     {
         self.way(across) >> 5
     }
@@ -47,7 +47,7 @@ impl AngularMode {
     pub(crate) fn part(self, across: usize) -> u8
         requires { across < 32 }
         ensures value { result ≡ part self.number across }
-        ensures small { result < 32 }
+        ensures most { result < 32 }
     {
         self.way(across).rem_euclid(32) as u8
     }
@@ -83,7 +83,7 @@ fn way_back(mode: u8, i: usize) -> i32
     requires last { mode ≤ 25 }
     requires sample { i < 32 }
     ensures value { result ≡ negsuc i *ℤ invAngle mode }
-    ensures small { unsigned_abs result ≤ 131072 }
+    ensures most { unsigned_abs result ≤ 131072 }
 {
     (-1 - i as i32) * i32::from(inv_angle(mode))
 }

@@ -22,7 +22,7 @@ fn clip(value: i16) -> u8
 #[inline(always)]
 fn half_moved(other: u8, corner: u8) -> i16
     ensures value { result ≡ int_shr (pos other -ℤ pos corner) 1 }
-    ensures small { unsigned_abs result ≤ 255 }
+    ensures most { unsigned_abs result ≤ 255 }
 {
     (i16::from(other) - i16::from(corner)) >> 1
 }

@@ -59,7 +59,7 @@ fn gaps<const N: usize>(a: Simd<u8, N>, b: Simd<u8, N>) -> Simd<u8, N>
 pub(crate) fn total<const N: usize>(lanes: Simd<u8, N>) -> u32
     requires { N ≤ 64 }
     ensures value { result ≡ sum_l lanes.entry }
-    ensures small { result ≤ 255 * N }
+    ensures most { result ≤ 255 * N }
 {
     lanes.cast::<u32>().strict_reduce_sum()
 }
@@ -69,7 +69,7 @@ pub(crate) fn total<const N: usize>(lanes: Simd<u8, N>) -> u32
 fn total_of_squares<const N: usize>(lanes: Simd<u8, N>) -> u32
     requires { N ≤ 64 }
     ensures value { result ≡ sum_l (zip2 (λ x y. x * y) lanes.entry lanes.entry) }
-    ensures small { result ≤ 255 * 255 * 64 }
+    ensures most { result ≤ 255 * 255 * 64 }
 {
     let wide = lanes.cast::<u32>();
     wide.strict_mul(wide).strict_reduce_sum()
@@ -80,7 +80,7 @@ fn total_of_squares<const N: usize>(lanes: Simd<u8, N>) -> u32
 pub(crate) fn sad_of_lanes<const N: usize>(a: Simd<u8, N>, b: Simd<u8, N>) -> u32
     requires { N ≤ 64 }
     ensures value { result ≡ sad_of a.entry b.entry }
-    ensures small { result ≤ 255 * 64 }
+    ensures most { result ≤ 255 * 64 }
 {
     total(gaps(a, b))
 }
@@ -90,7 +90,7 @@ pub(crate) fn sad_of_lanes<const N: usize>(a: Simd<u8, N>, b: Simd<u8, N>) -> u3
 pub(crate) fn ssd_of_lanes<const N: usize>(a: Simd<u8, N>, b: Simd<u8, N>) -> u32
     requires { N ≤ 64 }
     ensures value { result ≡ ssd_of a.entry b.entry }
-    ensures small { result ≤ 255 * 255 * 64 }
+    ensures most { result ≤ 255 * 255 * 64 }
 {
     total_of_squares(gaps(a, b))
 }
@@ -99,7 +99,7 @@ pub(crate) fn ssd_of_lanes<const N: usize>(a: Simd<u8, N>, b: Simd<u8, N>) -> u3
 #[inline(always)]
 pub(crate) fn sums_of_fours(lanes: u8x16) -> u32x4
     ensures value { (j : ℕ) → j < 4 → slice_index result j ≡ sum (take 4 (drop (4 * j) lanes)) }
-    ensures small { (j : ℕ) → j < 4 → slice_index result j ≤ 255 * 4 }
+    ensures most { (j : ℕ) → j < 4 → slice_index result j ≤ 255 * 4 }
     ensures whole { sum_l result ≤ 255 * 16 }
 {
     lanes.dot4(u8x16::splat(1))
@@ -146,7 +146,7 @@ pub(crate) fn add_gaps<const N: usize>(
     requires lanes { N ≤ 64 }
     requires room { sum_l sums ≤ 255 * 64 * 64 }
     ensures value { sum_l result ≡ sum_l sums.entry + sad_of a.entry b.entry }
-    ensures small { sum_l result ≤ sum_l sums.entry + 255 * 64 }
+    ensures most { sum_l result ≤ sum_l sums.entry + 255 * 64 }
 {
     sums.strict_add(wide_gaps(a, b))
 }

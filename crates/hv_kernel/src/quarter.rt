@@ -11,7 +11,7 @@ use std::simd::prelude::*;
 fn sum_of_four(samples: &[u8], at: usize) -> u32
     requires { at + 4 ≤ length samples.now }
     ensures value { result ≡ sum (take 4 (drop at samples.now)) }
-    ensures small { result ≤ 255 * 4 }
+    ensures most { result ≤ 255 * 4 }
 {
     total(load::<4>(samples, at))
 }
@@ -22,7 +22,7 @@ fn sum_of_four(samples: &[u8], at: usize) -> u32
 fn sum_of_square(rows: &[u8], width: usize, column: usize) -> u32
     requires { 3 * width + column + 4 ≤ length rows.now }
     ensures value { result ≡ sum_of_square rows.now width column }
-    ensures small { result ≤ 255 * 16 }
+    ensures most { result ≤ 255 * 16 }
 {
     let upper = sum_of_four(rows, column) + sum_of_four(rows, width + column);
     let lower = sum_of_four(rows, 2 * width + column) + sum_of_four(rows, 3 * width + column);
@@ -35,7 +35,7 @@ fn sums_of_squares(rows: &[u8], width: usize, column: usize) -> u32x4
     requires { 3 * width + column + 16 ≤ length rows.now }
     ensures value { (j : ℕ) → j < 4 →
         slice_index result j ≡ sum_of_square rows.now width (column + 4 * j) }
-    ensures small { (j : ℕ) → j < 4 → slice_index result j ≤ 255 * 16 }
+    ensures most { (j : ℕ) → j < 4 → slice_index result j ≤ 255 * 16 }
 {
     let first = sums_of_fours(load(rows, column));
     let second = sums_of_fours(load(rows, width + column));

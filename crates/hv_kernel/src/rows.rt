@@ -18,7 +18,7 @@ pub(crate) fn add_sad_of_rows<const N: usize>(sum: u32, from: usize, blocks: Pai
     requires columns { blocks.first.columns ≡ N }
     requires begun { from ≤ blocks.first.rows }
     requires before { sum ≡ sad_of_rows blocks from }
-    requires small { sum ≤ 255 * 64 * from }
+    requires most { sum ≤ 255 * 64 * from }
     ensures { result ≡ sad_of_rows blocks.entry blocks.entry.first.rows }
 {
     let mut sum = sum;
@@ -38,7 +38,7 @@ pub(crate) fn add_ssd_of_rows<const N: usize>(sum: u32, from: usize, blocks: Pai
     requires columns { blocks.first.columns ≡ N }
     requires begun { from ≤ blocks.first.rows }
     requires before { sum ≡ ssd_of_rows blocks from }
-    requires small { sum ≤ 255 * 255 * 64 * from }
+    requires most { sum ≤ 255 * 255 * 64 * from }
     ensures { result ≡ ssd_of_rows blocks.entry blocks.entry.first.rows }
 {
     let mut sum = sum;
@@ -63,9 +63,9 @@ pub(crate) fn add_gaps_of_four_rows<const N: usize>(
     requires columns { blocks.first.columns ≡ N }
     requires inside { y + 4 ≤ blocks.first.rows }
     requires before { sum_l sums ≡ sad_of_rows blocks y }
-    requires small { sum_l sums ≤ 255 * 64 * y }
+    requires most { sum_l sums ≤ 255 * 64 * y }
     ensures value { sum_l result ≡ sad_of_rows blocks.entry (y + 4) }
-    ensures small { sum_l result ≤ 255 * 64 * (y + 4) }
+    ensures most { sum_l result ≤ 255 * 64 * (y + 4) }
 {
     let mut sums = sums;
     for row in y..y + 4 {
@@ -101,7 +101,7 @@ pub(crate) fn sad_of_four_rows(blocks: Pair, y: usize) -> u32
     requires columns { blocks.first.columns ≡ 16 }
     requires inside { y + 4 ≤ blocks.first.rows }
     ensures value { sad_of_rows blocks.entry (y + 4) ≡ sad_of_rows blocks.entry y + result }
-    ensures small { result ≤ 255 * 64 }
+    ensures most { result ≤ 255 * 64 }
 {
     sad_of_lanes(four_rows(blocks.first, y), four_rows(blocks.second, y))
 }

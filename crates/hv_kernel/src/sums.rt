@@ -17,13 +17,13 @@ fn add_sad_of_runs<const N: usize>(begun: Begun, a: &[u8], b: &[u8]) -> Begun
     requires some { 0 < N }
     requires lanes { N ≤ 64 }
     requires even { length a.now ≡ length b.now }
-    requires short { length a.now < 2 ^ 32 }
+    requires a_most { length a.now < 2 ^ 32 }
     requires within { begun.at ≤ length a.now }
     requires before { begun.sum ≡ sad_of (take begun.at a.now) (take begun.at b.now) }
-    requires small { begun.sum ≤ 255 * 64 * begun.at }
+    requires begun_most { begun.sum ≤ 255 * 64 * begun.at }
     ensures within { result.at ≤ length a.now }
     ensures value { result.sum ≡ sad_of (take result.at a.now) (take result.at b.now) }
-    ensures small { result.sum ≤ 255 * 64 * result.at }
+    ensures most { result.sum ≤ 255 * 64 * result.at }
     ensures all { length a.now < result.at + N }
 {
     let mut sum = begun.sum;
@@ -41,13 +41,13 @@ fn add_ssd_of_runs<const N: usize>(begun: Begun, a: &[u8], b: &[u8]) -> Begun
     requires some { 0 < N }
     requires lanes { N ≤ 64 }
     requires even { length a.now ≡ length b.now }
-    requires short { length a.now < 2 ^ 32 }
+    requires a_most { length a.now < 2 ^ 32 }
     requires within { begun.at ≤ length a.now }
     requires before { begun.sum ≡ ssd_of (take begun.at a.now) (take begun.at b.now) }
-    requires small { begun.sum ≤ 255 * 255 * 64 * begun.at }
+    requires begun_most { begun.sum ≤ 255 * 255 * 64 * begun.at }
     ensures within { result.at ≤ length a.now }
     ensures value { result.sum ≡ ssd_of (take result.at a.now) (take result.at b.now) }
-    ensures small { result.sum ≤ 255 * 255 * 64 * result.at }
+    ensures most { result.sum ≤ 255 * 255 * 64 * result.at }
     ensures all { length a.now < result.at + N }
 {
     let mut sum = begun.sum;
@@ -63,7 +63,7 @@ fn add_ssd_of_runs<const N: usize>(begun: Begun, a: &[u8], b: &[u8]) -> Begun
 /// memory and always answers.
 pub fn sad(a: &[u8], b: &[u8]) -> u64
     requires even { length a.now ≡ length b.now }
-    requires short { length a.now < 2 ^ 32 }
+    requires most { length a.now < 2 ^ 32 }
     ensures { result ≡ sad_of a.now b.now }
 {
     let begun = add_sad_of_runs::<64>(Begun { sum: 0, at: 0 }, a, b);
@@ -75,7 +75,7 @@ pub fn sad(a: &[u8], b: &[u8]) -> u64
 /// memory and always answers.
 pub fn ssd(a: &[u8], b: &[u8]) -> u64
     requires even { length a.now ≡ length b.now }
-    requires short { length a.now < 2 ^ 32 }
+    requires most { length a.now < 2 ^ 32 }
     ensures { result ≡ ssd_of a.now b.now }
 {
     let begun = add_ssd_of_runs::<64>(Begun { sum: 0, at: 0 }, a, b);

@@ -69,8 +69,8 @@ fn fast_rows() -> [u8; 4096] {
 fn slow_and_fast<'a>(slow: &'a [u8], fast: &'a [u8], columns: usize, rows: usize) -> Pair<'a>
     requires slow { length slow.now ≡ 4288 }
     requires fast { length fast.now ≡ 4096 }
-    requires narrow { columns ≤ 64 }
-    requires low { rows ≤ 64 }
+    requires columns_most { columns ≤ 64 }
+    requires rows_most { rows ≤ 64 }
     ensures { result.first.columns ≡ columns }
 {
     Pair {
@@ -111,8 +111,8 @@ fn blocks_of_rows(rt: HostRuntime) {
 /// A block of 64 columns, or less, of samples with the stride 64.
 fn of_stride_64<'a>(samples: &'a [u8], columns: usize, rows: usize) -> Window<'a>
     requires samples { length samples.now ≡ 4096 }
-    requires narrow { columns ≤ 64 }
-    requires low { rows ≤ 64 }
+    requires columns_most { columns ≤ 64 }
+    requires rows_most { rows ≤ 64 }
     ensures columns { result.columns ≡ columns }
     ensures rows { result.rows ≡ rows }
 {

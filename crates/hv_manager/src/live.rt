@@ -27,7 +27,7 @@ fn add_named(live: &mut Vec<u8>, structure: &Structure, picture: u8)
     requires structure { IsStructure structure.now }
     requires picture { picture < structure.now.count }
     requires count { length live.old.items ≡ structure.now.count }
-    requires small { All (λ n. n ≤ 64) live.old.items }
+    requires most { All (λ n. n ≤ 64) live.old.items }
     ensures count { length live.new.items ≡ structure.now.count }
     ensures each { (k : ℕ) → k < structure.now.count → slice_index live.new.items k ≡
         slice_index live.old.items k
@@ -59,7 +59,7 @@ pub(crate) fn take_off_named(live: &mut Vec<u8>, structure: &Structure, picture:
 /// Adds one to the count of a picture, where there is one.
 fn add(live: &mut Vec<u8>, picture: Option<u8>)
     requires below { ForSome picture (λ k. k < length live.old.items) }
-    requires small { All (λ n. n < 255) live.old.items }
+    requires most { All (λ n. n < 255) live.old.items }
     ensures count { length live.new.items ≡ length live.old.items }
     ensures each { (k : ℕ) → k < length live.old.items → slice_index live.new.items k ≡
         slice_index live.old.items k + one_at picture k }

@@ -13,7 +13,7 @@ use std::test::Fail;
 fn refs_of(alloc: Global, count: u8, levels: u8) -> Result<Refs, NoMemory>
     requires some { 1 ≤ count }
     requires most { count ≤ 64 }
-    requires few { levels ≤ most_levels }
+    requires levels_most { levels ≤ most_levels }
     ensures { IfOk result (λ r. r ≡ opening count levels) }
 {
     let structure = Structure::of(alloc, count, levels)?;

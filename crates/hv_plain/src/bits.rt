@@ -9,7 +9,7 @@ ghost use Rattle.hv_entropy_model.specs.CodeWord.{shift_of, doublings};
 /// The bit at a place of the bytes, none past their end.
 fn bit_at(bytes: &[u8], at: usize) -> Option<u8>
     ensures value { result ≡ slice_get (bits_of bytes.now) at }
-    ensures small { IfSome result (λ bit. bit < 2) }
+    ensures most { IfSome result (λ bit. bit < 2) }
 {
     if at / 8 < bytes.len() {
         Some((bytes[at / 8] >> (7 - at % 8)) % 2)
@@ -21,9 +21,9 @@ fn bit_at(bytes: &[u8], at: usize) -> Option<u8>
 /// The offset doubles and takes a bit, so often: the offset and the place after that, none where
 /// the bits end (9.3.4.3.3).
 pub fn read_bits(bytes: &[u8], at: usize, count: u32, offset: u32) -> Option<(u32, usize)>
-    requires few { length bytes.now < 2 ^ 32 }
+    requires bytes_most { length bytes.now < 2 ^ 32 }
     requires within { at ≤ 8 * length bytes.now }
-    requires small { (offset + 1) * 2 ^ count ≤ 2 ^ 20 }
+    requires offset_most { (offset + 1) * 2 ^ count ≤ 2 ^ 20 }
     ensures value { (variables : List ContextVariable) (range : ℕ) →
         read_bits count variables range offset (drop at (bits_of bytes.now))
         ≡ option_map (λ r. record {
@@ -47,7 +47,7 @@ pub fn read_bits(bytes: &[u8], at: usize, count: u32, offset: u32) -> Option<(u3
 /// How often a width doubles until it has 256, at most `fuel` times (9.3.4.3.3).
 fn doublings(fuel: u32, width: u32) -> u32
     ensures value { result ≡ doublings fuel width }
-    ensures few { result ≤ fuel }
+    ensures most { result ≤ fuel }
 {
     if fuel == 0 || width >= 256 {
         0
@@ -60,11 +60,11 @@ fn doublings(fuel: u32, width: u32) -> u32
 #[tactic(auto, using(hv_entropy_model::proofs::IntervalLemmas::shift_fits), unfolding(hv_entropy_model::specs::CodeWord::shift_of))]
 pub fn shift_of(width: u32) -> u32
     requires some { 0 < width }
-    requires narrow { width ≤ 510 }
+    requires most { width ≤ 510 }
     ensures value { result ≡ shift_of width }
-    ensures few { result ≤ 8 }
+    ensures result_most { result ≤ 8 }
     ensures wide { 256 ≤ width * 2 ^ result }
-    ensures narrow { width * 2 ^ result ≤ 510 }
+    ensures result_most_2 { width * 2 ^ result ≤ 510 }
 {
     doublings(8, width)
 }

@@ -7,7 +7,7 @@ use std::alloc::AllocError;
 
 /// Adds to the number that the digits make.
 pub fn add(digits: &mut Vec<u8>, value: u32)
-    requires small { value < 2 ^ 20 }
+    requires most { value < 2 ^ 20 }
     requires bits { All (λ d. d < 2) digits.old.items }
     requires fits { number_of digits.old.items + value < 2 ^ length digits.old.items }
     ensures number { number_of digits.new.items ≡ number_of digits.old.items + value }

@@ -78,7 +78,7 @@ fn put_exp_golomb(bits: &mut Vec<u8>, value: u32) -> Result<(), AllocError>
 /// How often a number halves until it is less than 2, at most `fuel` times.
 fn halvings(fuel: u32, number: u64) -> u32
     ensures value { result ≡ halvings fuel number }
-    ensures few { result ≤ fuel }
+    ensures most { result ≤ fuel }
 {
     if fuel == 0 || number < 2 {
         0
@@ -91,7 +91,7 @@ fn halvings(fuel: u32, number: u64) -> u32
 #[tactic(auto, unfolding(hv_stream_model::specs::Fields::log2_of))]
 fn log2_of(number: u64) -> u32
     ensures value { result ≡ log2_of number }
-    ensures few { result ≤ 64 }
+    ensures most { result ≤ 64 }
 {
     halvings(64, number)
 }

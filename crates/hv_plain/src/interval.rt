@@ -136,7 +136,7 @@ impl PlainInterval {
 /// What a bypass bin leaves out of the doubled interval.
 fn skip_of(range: u32, value: bool) -> u32
     ensures value { result ≡ cond value range 0 }
-    ensures few { result ≤ range }
+    ensures most { result ≤ range }
 {
     if value { range } else { 0 }
 }
@@ -150,7 +150,7 @@ fn keep(
     variables: Vec<Variable>,
 ) -> Result<PlainInterval, AllocError>
     requires long { 9 ≤ length low.items }
-    requires narrow { range ≤ 510 }
+    requires most { range ≤ 510 }
     requires bits { All (λ d. d < 2) low.items }
     requires below { number_of low.items + range ≤ 510 * 2 ^ (length low.items - 9) }
     requires some { 0 < width }
@@ -182,7 +182,7 @@ fn decided(
     variables: Vec<Variable>,
 ) -> Result<PlainInterval, AllocError>
     requires long { 9 ≤ length low.items }
-    requires narrow { range ≤ 510 }
+    requires most { range ≤ 510 }
     requires bits { All (λ d. d < 2) low.items }
     requires below { number_of low.items + range ≤ 510 * 2 ^ (length low.items - 9) }
     requires some { 0 < lps }

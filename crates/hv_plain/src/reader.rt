@@ -125,7 +125,7 @@ impl<'a> BinReader<'a> {
 
     /// A binary decision of this value (9.3.4.3.2.2), from a range and an offset within it.
     fn decide(&mut self, range: u32, offset: u32, context: Ctx, value: bool) -> Option<bool>
-        requires narrow { range ≤ 510 }
+        requires most { range ≤ 510 }
         requires inside { offset < range }
         ensures { let before = variable_at self.old.variables context in
             let after = with_variable self.old.variables context (next_variable before value) in
@@ -198,9 +198,9 @@ struct Place {
 /// Where the decoder stands after renormalization (9.3.4.3.3), from a range and an offset within
 /// it; none where the bits end.
 fn renormalized(bytes: &[u8], at: usize, range: u32, offset: u32) -> Option<Place>
-    requires few { length bytes.now < 2 ^ 32 }
+    requires bytes_most { length bytes.now < 2 ^ 32 }
     requires within { at ≤ 8 * length bytes.now }
-    requires narrow { range ≤ 510 }
+    requires range_most { range ≤ 510 }
     requires inside { offset < range }
     ensures value { (variables : List ContextVariable) →
         renormalize variables range offset (drop at (bits_of bytes.now))
@@ -212,7 +212,7 @@ fn renormalized(bytes: &[u8], at: usize, range: u32, offset: u32) -> Option<Plac
         }) result }
     ensures within { IfSome result (λ r. r.at ≤ 8 * length bytes.now) }
     ensures wide { IfSome result (λ r. 256 ≤ r.range) }
-    ensures narrow { IfSome result (λ r. r.range ≤ 510) }
+    ensures most { IfSome result (λ r. r.range ≤ 510) }
     ensures inside { IfSome result (λ r. r.offset < r.range) }
 {
     let shift = shift_of(range);
@@ -228,8 +228,8 @@ fn renormalized(bytes: &[u8], at: usize, range: u32, offset: u32) -> Option<Plac
 
 /// A width doubled so often.
 pub(crate) fn doubled(width: u32, times: u32) -> u32
-    requires few { times ≤ 8 }
-    requires small { width * 2 ^ times < 2 ^ 20 }
+    requires times_most { times ≤ 8 }
+    requires width_most { width * 2 ^ times < 2 ^ 20 }
     ensures { result ≡ width * 2 ^ times }
 {
     width << times

@@ -9,7 +9,7 @@ use hv_types::{Failed, Sink, Source};
 /// Reads until the buffer is full or the input ends, never for more than what the buffer lacks, and
 /// says how many bytes were read.
 pub fn fill<S: Source>(source: &mut S, buffer: &mut [u8]) -> Result<usize, Failed>
-    ensures few { IfOk result (λ n. n ≤ length buffer.new) }
+    ensures most { IfOk result (λ n. n ≤ length buffer.new) }
     ensures read { IfOk result (λ n.
         (bytes : List ℕ) → S.left source.old ≡ Some bytes →
         Fills bytes (S.left source.new) buffer.new n) }

@@ -22,8 +22,8 @@ fn sums_of_8<const W: usize, const P: usize, const FEW: bool>(
 ) -> i32x4
     requires rows { p + 4 ≤ P }
     requires columns { 2 * i + 2 ≤ W }
-    requires narrow { W ≤ 128 }
-    requires short { P ≤ 128 }
+    requires w_most { W ≤ 128 }
+    requires p_most { P ≤ 128 }
     requires numbers { HaveBits 8 rows.now i p }
     requires few { FEW ≡ true → AreFew 8 rows.now i p }
     requires first { Numbers first.now }
@@ -54,8 +54,8 @@ fn sums_of_16<const W: usize, const P: usize, const FEW: bool>(
 ) -> i32x4
     requires rows { p + 8 ≤ P }
     requires columns { 2 * i + 2 ≤ W }
-    requires narrow { W ≤ 128 }
-    requires short { P ≤ 128 }
+    requires w_most { W ≤ 128 }
+    requires p_most { P ≤ 128 }
     requires numbers { HaveBits 16 rows.now i p }
     requires few { FEW ≡ true → AreFew 16 rows.now i p }
     requires first { Numbers first.now }
@@ -85,10 +85,10 @@ pub(crate) fn column_of_8<const W: usize, const P: usize, const T: usize>(
 ) -> (i32x4, i32x4)
     requires rows { p + 4 ≤ P }
     requires columns { 2 * i + 2 ≤ W }
-    requires narrow { W ≤ 128 }
-    requires short { P ≤ 128 }
+    requires w_most { W ≤ 128 }
+    requires p_most { P ≤ 128 }
     requires table { 2 ≤ T }
-    requires small { T ≤ 128 }
+    requires t_most { T ≤ 128 }
     requires numbers { HaveBits 8 rows.now i p }
     requires weights { HasWeights 3 table.now }
     ensures first { ColumnSums 1 (numbers_from rows.now i p) 0 result.0 }
@@ -110,10 +110,10 @@ pub(crate) fn column_of_16<const W: usize, const P: usize, const T: usize, const
 ) -> (i32x4, i32x4, i32x4, i32x4)
     requires rows { p + 8 ≤ P }
     requires columns { 2 * i + 2 ≤ W }
-    requires narrow { W ≤ 128 }
-    requires short { P ≤ 128 }
+    requires w_most { W ≤ 128 }
+    requires p_most { P ≤ 128 }
     requires table { 6 ≤ T }
-    requires small { T ≤ 128 }
+    requires t_most { T ≤ 128 }
     requires numbers { HaveBits 16 rows.now i p }
     requires few { FEW ≡ true → AreFew 8 rows.now i p }
     requires weights { HasWeights 4 table.now }
@@ -144,10 +144,10 @@ pub(crate) fn column_of_32<const W: usize, const P: usize, const T: usize, const
 ) -> (i32x4, i32x4, i32x4, i32x4, i32x4, i32x4, i32x4, i32x4)
     requires rows { p + 16 ≤ P }
     requires columns { 2 * i + 2 ≤ W }
-    requires narrow { W ≤ 128 }
-    requires short { P ≤ 128 }
+    requires w_most { W ≤ 128 }
+    requires p_most { P ≤ 128 }
     requires table { 22 ≤ T }
-    requires small { T ≤ 128 }
+    requires t_most { T ≤ 128 }
     requires numbers { HaveBits 32 rows.now i p }
     requires few { FEW ≡ true → AreFew 16 rows.now i p }
     requires few_others { FEW ≡ true → AreFew 8 rows.now i (p + 8) }

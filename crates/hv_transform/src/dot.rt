@@ -8,7 +8,7 @@ ghost use Rattle.hv_transform.specs.Rows.{dot_of};
 #[inline(always)]
 fn product(entry: i8, number: i16) -> i32
     ensures value { result ≡ entry *ℤ number }
-    ensures small { unsigned_abs result ≤ 4194304 }
+    ensures most { unsigned_abs result ≤ 4194304 }
 {
     i32::from(entry) * i32::from(number)
 }
@@ -18,7 +18,7 @@ fn product(entry: i8, number: i16) -> i32
 fn add_product(sum: i32, entry: i8, number: i16) -> i32
     requires { unsigned_abs sum ≤ 1073741824 }
     ensures value { result ≡ sum +ℤ (entry *ℤ number) }
-    ensures small { unsigned_abs result ≤ unsigned_abs sum + 4194304 }
+    ensures most { unsigned_abs result ≤ unsigned_abs sum + 4194304 }
 {
     sum + product(entry, number)
 }
@@ -32,7 +32,7 @@ fn add_product(sum: i32, entry: i8, number: i16) -> i32
 pub(crate) fn dot<const N: usize>(entries: &[i8; N], numbers: &[i16; N]) -> i32
     requires { N ≤ 32 }
     ensures value { result ≡ dot_of N entries.now numbers.now }
-    ensures small { unsigned_abs result ≤ 134217728 }
+    ensures most { unsigned_abs result ≤ 134217728 }
 {
     let mut sum = 0;
     for x in 0..N {
@@ -44,9 +44,9 @@ pub(crate) fn dot<const N: usize>(entries: &[i8; N], numbers: &[i16; N]) -> i32
 /// The dot product of two rows by 2^shift, rounded to the nearest, a half upwards.
 #[inline(always)]
 pub(crate) fn mean<const N: usize>(entries: &[i8; N], numbers: &[i16; N], shift: u32) -> i32
-    requires few { N ≤ 32 }
+    requires n_most { N ≤ 32 }
     requires some { 0 < shift }
-    requires small { shift ≤ 12 }
+    requires shift_most { shift ≤ 12 }
     ensures { result ≡ rounded (dot_of N entries.now numbers.now) shift }
 {
     (dot(entries, numbers) + (1 << (shift - 1))) >> shift
@@ -55,10 +55,10 @@ pub(crate) fn mean<const N: usize>(entries: &[i8; N], numbers: &[i16; N], shift:
 /// The same, where it has 16 bits.
 #[inline(always)]
 pub(crate) fn narrow_mean<const N: usize>(entries: &[i8; N], numbers: &[i16; N], shift: u32) -> i16
-    requires few { N ≤ 32 }
+    requires n_most { N ≤ 32 }
     requires some { 0 < shift }
-    requires small { shift ≤ 12 }
-    requires narrow { unsigned_abs (dot_of N entries.now numbers.now) ≤ 32767 * 2 ^ shift }
+    requires shift_most { shift ≤ 12 }
+    requires dot_of_most { unsigned_abs (dot_of N entries.now numbers.now) ≤ 32767 * 2 ^ shift }
     ensures { result ≡ rounded (dot_of N entries.now numbers.now) shift }
 {
     mean(entries, numbers, shift) as i16

@@ -19,11 +19,11 @@ fn transform_rows<const N: usize>(
     out: &mut [i16],
 )
     requires some { 0 < N }
-    requires few { N ≤ 32 }
+    requires n_most { N ≤ 32 }
     requires positive { 0 < shift }
-    requires small { shift ≤ 12 }
+    requires shift_most { shift ≤ 12 }
     requires light { WeighAtMost N (64 * N) rows.now }
-    requires narrow { 64 * N * 255 ≤ 32640 * 2 ^ shift }
+    requires n_most_2 { 64 * N * 255 ≤ 32640 * 2 ^ shift }
     requires block { length residual.now ≡ N * N }
     requires range { AreWithin (N * N) 255 residual.now }
     requires room { length out.old ≡ N * N }
@@ -47,9 +47,9 @@ fn transform_columns<const N: usize>(
     out: &mut [i32],
 )
     requires some { 0 < N }
-    requires few { N ≤ 32 }
+    requires n_most { N ≤ 32 }
     requires positive { 0 < shift }
-    requires small { shift ≤ 12 }
+    requires shift_most { shift ≤ 12 }
     requires block { length halfway.now ≡ N * N }
     requires room { length out.old ≡ N * N }
     ensures { HasFirst (N * N)

@@ -19,11 +19,11 @@ fn row_of_8<const W: usize>(
     out: &mut [i16],
 )
     requires columns { 2 * i + 2 ≤ W }
-    requires narrow { W ≤ 128 }
+    requires w_most { W ≤ 128 }
     requires numbers { HaveBits 8 rows.now i 0 }
     requires weights { HasWeights 3 table.now }
     requires some { 0 < shift }
-    requires few { shift ≤ 12 }
+    requires shift_most { shift ≤ 12 }
     requires room { length out.old ≡ 8 }
     ensures { HasFirst 8 (column_mean 1 (numbers_from rows.now i 0) shift) out.new }
 {
@@ -42,12 +42,12 @@ fn row_of_16<const W: usize, const FEW: bool>(
     out: &mut [i16],
 )
     requires columns { 2 * i + 2 ≤ W }
-    requires narrow { W ≤ 128 }
+    requires w_most { W ≤ 128 }
     requires numbers { HaveBits 16 rows.now i 0 }
     requires few_numbers { FEW ≡ true → AreFew 8 rows.now i 0 }
     requires weights { HasWeights 4 table.now }
     requires some { 0 < shift }
-    requires few { shift ≤ 12 }
+    requires shift_most { shift ≤ 12 }
     requires room { length out.old ≡ 16 }
     ensures { HasFirst 16 (column_mean 2 (numbers_from rows.now i 0) shift) out.new }
 {
@@ -67,13 +67,13 @@ fn row_of_32<const W: usize, const FEW: bool>(
     out: &mut [i16],
 )
     requires columns { 2 * i + 2 ≤ W }
-    requires narrow { W ≤ 128 }
+    requires w_most { W ≤ 128 }
     requires numbers { HaveBits 32 rows.now i 0 }
     requires few_numbers { FEW ≡ true → AreFew 16 rows.now i 0 }
     requires few_others { FEW ≡ true → AreFew 8 rows.now i 8 }
     requires weights { HasWeights 5 table.now }
     requires some { 0 < shift }
-    requires few { shift ≤ 12 }
+    requires shift_most { shift ≤ 12 }
     requires room { length out.old ≡ 32 }
     ensures { HasFirst 32 (column_mean 3 (numbers_from rows.now i 0) shift) out.new }
 {
@@ -96,11 +96,11 @@ pub(crate) fn pass_8<const W: usize>(
     out: &mut [i16],
 )
     requires wide { 16 ≤ W }
-    requires narrow { W ≤ 128 }
+    requires w_most { W ≤ 128 }
     requires numbers { (i : ℕ) → i < 8 → HaveBits 8 rows.now i 0 }
     requires weights { HasWeights 3 table.now }
     requires some { 0 < shift }
-    requires few { shift ≤ 12 }
+    requires shift_most { shift ≤ 12 }
     requires room { length out.old ≡ 64 }
     ensures { HasFirst 64 (pass_mean 1 rows.now shift) out.new }
 {
@@ -125,12 +125,12 @@ pub(crate) fn pass_16<const W: usize, const FEW: bool>(
     out: &mut [i16],
 )
     requires wide { 2 * columns ≤ W }
-    requires narrow { W ≤ 128 }
+    requires w_most { W ≤ 128 }
     requires numbers { (i : ℕ) → i < columns → HaveBits 16 rows.now i 0 }
     requires few_numbers { FEW ≡ true → (i : ℕ) → i < columns → AreFew 8 rows.now i 0 }
     requires weights { HasWeights 4 table.now }
     requires some { 0 < shift }
-    requires few { shift ≤ 12 }
+    requires shift_most { shift ≤ 12 }
     requires room { length out.old ≡ columns * 16 }
     ensures { HasFirst (columns * 16) (pass_mean 2 rows.now shift) out.new }
 {
@@ -150,13 +150,13 @@ pub(crate) fn pass_32<const W: usize, const FEW: bool>(
     out: &mut [i16],
 )
     requires wide { 2 * columns ≤ W }
-    requires narrow { W ≤ 128 }
+    requires w_most { W ≤ 128 }
     requires numbers { (i : ℕ) → i < columns → HaveBits 32 rows.now i 0 }
     requires few_numbers { FEW ≡ true → (i : ℕ) → i < columns → AreFew 16 rows.now i 0 }
     requires few_others { FEW ≡ true → (i : ℕ) → i < columns → AreFew 8 rows.now i 8 }
     requires weights { HasWeights 5 table.now }
     requires some { 0 < shift }
-    requires few { shift ≤ 12 }
+    requires shift_most { shift ≤ 12 }
     requires room { length out.old ≡ columns * 32 }
     ensures { HasFirst (columns * 32) (pass_mean 3 rows.now shift) out.new }
 {

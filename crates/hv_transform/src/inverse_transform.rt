@@ -16,7 +16,7 @@ use hv_tables::matrix_columns_4;
 /// Writes the columns of a block as rows.
 #[inline(always)]
 fn turn<const N: usize>(coefficients: &[i32], out: &mut [i16])
-    requires few { N ≤ 32 }
+    requires most { N ≤ 32 }
     requires block { length coefficients.now ≡ N * N }
     requires range { Have16Bits coefficients.now }
     requires room { length out.old ≡ N * N }
@@ -33,7 +33,7 @@ fn turn<const N: usize>(coefficients: &[i32], out: &mut [i16])
 #[inline(always)]
 fn transform_columns<const N: usize>(columns: &[[i8; N]; N], turned: &[i16], out: &mut [i16])
     requires some { 0 < N }
-    requires few { N ≤ 32 }
+    requires most { N ≤ 32 }
     requires block { length turned.now ≡ N * N }
     requires room { length out.old ≡ N * N }
     ensures { HasFirst (N * N)
@@ -51,7 +51,7 @@ fn transform_columns<const N: usize>(columns: &[[i8; N]; N], turned: &[i16], out
 #[inline(always)]
 fn transform_rows<const N: usize>(columns: &[[i8; N]; N], halfway: &[i16], out: &mut [i16])
     requires some { 0 < N }
-    requires few { N ≤ 32 }
+    requires most { N ≤ 32 }
     requires light { WeighAtMost N 2048 columns.now }
     requires block { length halfway.now ≡ N * N }
     requires range { AreWithin (N * N) 32768 halfway.now }

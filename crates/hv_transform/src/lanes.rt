@@ -51,8 +51,8 @@ pub(crate) fn lane_sums<const W: usize, const P: usize>(
 ) -> i32x4
     requires rows { p + 2 ≤ P }
     requires columns { 2 * i + 2 ≤ W }
-    requires narrow { W ≤ 128 }
-    requires few { P ≤ 128 }
+    requires w_most { W ≤ 128 }
+    requires p_most { P ≤ 128 }
     requires numbers { (r : ℕ) → r < 4 → FitsSigned w16 (in_pairs rows.now i (2 * p + r)) }
     requires weights { Numbers weights.now }
     ensures { FourLanes (lane_sum weights.now rows.now i (2 * p)) result }
@@ -93,9 +93,9 @@ fn joined(low: i32x4, high: i32x4) -> i32x8
 #[inline(always)]
 fn clipped_means(lanes: i32x8, shift: u32) -> i16x8
     requires eight { length lanes ≡ 8 }
-    requires small { All (λ z. unsigned_abs z ≤ 1073741824) lanes }
+    requires lanes_most { All (λ z. unsigned_abs z ≤ 1073741824) lanes }
     requires some { 0 < shift }
-    requires few { shift ≤ 12 }
+    requires shift_most { shift ≤ 12 }
     ensures { result ≡ map (λ z. clip16 (rounded z shift)) lanes }
 {
     let means = (lanes + i32x8::splat(1 << (shift - 1))) >> i32x8::splat(shift as i32);
@@ -112,7 +112,7 @@ pub(crate) fn put_means(low: i32x4, high: i32x4, shift: u32, out: &mut [i16])
     requires low { All (λ z. unsigned_abs z ≤ 1073741824) low }
     requires high { All (λ z. unsigned_abs z ≤ 1073741824) high }
     requires some { 0 < shift }
-    requires few { shift ≤ 12 }
+    requires shift_most { shift ≤ 12 }
     requires room { length out.old ≡ 8 }
     ensures { out.new ≡ map (λ z. clip16 (rounded z shift)) (low ++ high) }
 {

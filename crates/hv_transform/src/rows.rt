@@ -7,7 +7,7 @@ ghost use Rattle.hv_transform.specs.Rows.{row_of};
 #[inline(always)]
 pub(crate) fn row<const N: usize>(block: &[i16], y: usize) -> &[i16; N]
     requires some { 0 < N }
-    requires few { N ≤ 32 }
+    requires most { N ≤ 32 }
     requires inside { y * N + N ≤ length block.now }
     ensures { result.now ≡ row_of N block.now y }
 {

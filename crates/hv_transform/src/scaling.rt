@@ -15,7 +15,7 @@ use hv_tables::{level_scale, quantisation_factor};
 fn product(level: i16, factor: u32) -> i64
     requires { factor ≤ 294912 }
     ensures value { result ≡ level *ℤ pos factor }
-    ensures small { unsigned_abs result ≤ 32768 * 294912 }
+    ensures most { unsigned_abs result ≤ 32768 * 294912 }
 {
     i64::from(level) * i64::from(factor)
 }
@@ -25,7 +25,7 @@ fn product(level: i16, factor: u32) -> i64
 fn rounded(product: i64, shift: u32) -> i64
     requires range { unsigned_abs product ≤ 32768 * 294912 }
     requires some { 0 < shift }
-    requires few { shift ≤ 8 }
+    requires most { shift ≤ 8 }
     ensures { result ≡ rounded product shift }
 {
     (product + (1 << (shift - 1))) >> shift
@@ -42,9 +42,9 @@ fn clipped(value: i64) -> i32
 /// A scaled transform coefficient, by its whole factor and the shift.
 #[inline(always)]
 fn scaled_by(level: i16, factor: u32, shift: u32) -> i32
-    requires small { factor ≤ 294912 }
+    requires factor_most { factor ≤ 294912 }
     requires some { 0 < shift }
-    requires few { shift ≤ 8 }
+    requires shift_most { shift ≤ 8 }
     ensures { result ≡ clip16 (rounded (level *ℤ pos factor) shift) }
 {
     clipped(rounded(product(level, factor), shift))
@@ -55,7 +55,7 @@ fn scaled_by(level: i16, factor: u32, shift: u32) -> i32
 fn whole_factor(qp: u8) -> u32
     requires { qp ≤ 51 }
     ensures value { result ≡ 16 * levelScale qp * 2 ^ (qp / 6) }
-    ensures small { result ≤ 294912 }
+    ensures most { result ≤ 294912 }
 {
     (16 * u32::from(level_scale(qp))) << (qp / 6)
 }
@@ -83,12 +83,12 @@ pub fn scale(levels: &[i16], log2: u8, qp: u8, out: &mut [i32])
 #[inline(always)]
 fn size_of_level(size: u32, factor: u32, offset: u32, shift: u32) -> u32
     requires range { size ≤ 32768 }
-    requires small { factor ≤ 26214 }
+    requires most { factor ≤ 26214 }
     requires least { 16 ≤ shift }
     requires greatest { shift ≤ 27 }
     requires part { offset ≤ 2 ^ shift }
     ensures value { result ≡ (size * factor + offset) / 2 ^ shift }
-    ensures small { result ≤ 13108 }
+    ensures most { result ≤ 13108 }
 {
     (size * factor + offset) >> shift
 }
@@ -97,7 +97,7 @@ fn size_of_level(size: u32, factor: u32, offset: u32, shift: u32) -> u32
 #[inline(always)]
 fn quantised_by(coefficient: i32, factor: u32, offset: u32, shift: u32) -> i16
     requires range { unsigned_abs coefficient ≤ 32768 }
-    requires small { factor ≤ 26214 }
+    requires most { factor ≤ 26214 }
     requires least { 16 ≤ shift }
     requires greatest { shift ≤ 27 }
     requires part { offset ≤ 2 ^ shift }
@@ -113,7 +113,7 @@ fn quantised_by(coefficient: i32, factor: u32, offset: u32, shift: u32) -> i16
 #[inline(always)]
 fn offset_of_kind(intra: bool) -> u32
     ensures value { result ≡ offset_of_kind intra }
-    ensures small { result ≤ 171 }
+    ensures most { result ≤ 171 }
 {
     if intra { 171 } else { 85 }
 }

@@ -17,7 +17,7 @@ fn residual_of<const AREA: usize>(levels: &[i16; AREA], log2: u8, qp: u8) -> [i1
     requires least { 2 ≤ log2 }
     requires greatest { log2 ≤ 5 }
     requires area { AREA ≡ 4 ^ log2 }
-    requires few { AREA ≤ 1024 }
+    requires most { AREA ≤ 1024 }
     requires quantiser { qp ≤ 51 }
 {
     let mut coefficients = [7; AREA];

@@ -88,7 +88,7 @@ fn narrow_eight(numbers: &[i32], out: &mut [i16])
 #[inline(always)]
 pub(crate) fn narrow(numbers: &[i32], out: &mut [i16])
     requires eights { 8 * (length numbers.now / 8) ≡ length numbers.now }
-    requires few { length numbers.now ≤ 1024 }
+    requires most { length numbers.now ≤ 1024 }
     requires range { Have16Bits numbers.now }
     requires room { length out.old ≡ length numbers.now }
     ensures { HasFirst (length numbers.now) (at numbers.now) out.new }
@@ -121,7 +121,7 @@ fn weave_eight(first: &[i16], second: &[i16], out: &mut [i16])
 #[inline(always)]
 fn weave_row(first: &[i16], second: &[i16], out: &mut [i16])
     requires eights { 8 * (length first.now / 8) ≡ length first.now }
-    requires few { length first.now ≤ 32 }
+    requires most { length first.now ≤ 32 }
     requires alike { length second.now ≡ length first.now }
     requires first_numbers { Numbers first.now }
     requires second_numbers { Numbers second.now }
@@ -141,7 +141,7 @@ fn weave_row(first: &[i16], second: &[i16], out: &mut [i16])
 #[inline(always)]
 fn weave_into<const W: usize>(first: &[i16], second: &[i16], out: &mut [i16; W])
     requires eights { 8 * (length first.now / 8) ≡ length first.now }
-    requires few { length first.now ≤ 32 }
+    requires most { length first.now ≤ 32 }
     requires alike { length second.now ≡ length first.now }
     requires first_numbers { Numbers first.now }
     requires second_numbers { Numbers second.now }
@@ -166,7 +166,7 @@ fn are_zero(numbers: &[i16]) -> bool
 #[inline(always)]
 fn are_all_zero(numbers: &[i16]) -> bool
     requires eights { 8 * (length numbers.now / 8) ≡ length numbers.now }
-    requires few { length numbers.now ≤ 1024 }
+    requires most { length numbers.now ≤ 1024 }
     requires numbers { Numbers numbers.now }
     ensures { result ≡ true → (k : ℕ) → k < length numbers.now → at numbers.now k ≡ pos 0 }
 {
@@ -183,7 +183,7 @@ fn are_all_zero(numbers: &[i16]) -> bool
 fn are_narrow<const N: usize>(block: &[i16]) -> bool
     requires eights { 8 * (N / 8) ≡ N }
     requires some { 8 ≤ N }
-    requires few { N ≤ 32 }
+    requires most { N ≤ 32 }
     requires whole { length block.now ≡ N * N }
     requires numbers { Numbers block.now }
     ensures { result ≡ true → (y x : ℕ) → y < 8 → 8 ≤ x → x < N → at block.now (y * N + x) ≡ pos 0 }
@@ -201,7 +201,7 @@ fn are_narrow<const N: usize>(block: &[i16]) -> bool
 pub(crate) fn is_corner<const N: usize>(block: &[i16]) -> bool
     requires eights { 8 * (N / 8) ≡ N }
     requires some { 8 ≤ N }
-    requires few { N ≤ 32 }
+    requires most { N ≤ 32 }
     requires whole { length block.now ≡ N * N }
     requires numbers { Numbers block.now }
     ensures rows { result ≡ true → IsShort N block.now }
@@ -221,12 +221,12 @@ pub(crate) fn weave<const N: usize, const W: usize, const P: usize, const FEW: b
     out: &mut [[i16; W]; P],
 )
     requires whole { length block.now ≡ N * N }
-    requires small { N ≤ 32 }
+    requires n_most { N ≤ 32 }
     requires pairs { 2 * P ≡ N }
     requires eights { 8 * (columns / 8) ≡ columns }
     requires columns { columns ≤ N }
     requires wide { 2 * N ≤ W }
-    requires narrow { W ≤ 128 }
+    requires w_most { W ≤ 128 }
     requires numbers { Numbers block.now }
     requires order { ArePairs P N order.now }
     requires short { FEW ≡ true → IsShort N block.now }

@@ -14,7 +14,6 @@ mod plane;
 mod script;
 mod settings;
 mod standard;
-mod standard_output;
 mod steady;
 mod window;
 mod words;
@@ -36,7 +35,6 @@ pub use settings::{
     Config, ConfigError, Emit, Field, MOST_LEVELS, MOST_PICTURES, Settings, SynthSpec,
 };
 pub use standard::{StdSink, StdSource};
-pub use standard_output::StandardOutput;
 pub use steady::{SteadySink, SteadySource};
 pub use window::Window;
 pub use words::Words;

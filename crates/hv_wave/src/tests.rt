@@ -63,7 +63,7 @@ fn finish_all(wave: &mut Wave, taken: &[u32]) -> bool {
 fn rounds(alloc: Global, columns: u32, rows: u32, segment: u8) -> Result<u32, NoMemory>
     requires columns { 1 ≤ columns }
     requires segment { 1 ≤ segment }
-    requires few { rows * per_row columns segment < 2 ^ 32 }
+    requires most { rows * per_row columns segment < 2 ^ 32 }
 {
     let mut wave = Wave::new(alloc, columns, rows, segment)?;
     for round in 0..1000 {
@@ -104,7 +104,7 @@ fn rows_run_two_behind(rt: HostRuntime) -> Result<(), Fail> {
 fn given_back(alloc: Global, columns: u32, rows: u32, segment: u8) -> Result<u32, NoMemory>
     requires columns { 1 ≤ columns }
     requires segment { 1 ≤ segment }
-    requires few { rows * per_row columns segment < 2 ^ 32 }
+    requires most { rows * per_row columns segment < 2 ^ 32 }
 {
     let mut wave = Wave::new(alloc, columns, rows, segment)?;
     for number in 0..u32::MAX {
@@ -146,7 +146,7 @@ fn widths(
     choices: &[usize],
 ) -> Result<Option<Vec<usize>>, NoMemory>
     requires columns { 1 ≤ columns }
-    requires few { rows * per_row columns 1 < 2 ^ 32 }
+    requires most { rows * per_row columns 1 < 2 ^ 32 }
 {
     let mut wave = Wave::new(alloc, columns, rows, 1)?;
     let mut taken = Vec::new(alloc);
@@ -188,7 +188,7 @@ fn choose_next(choices: &mut Vec<usize>, widths: &[usize]) -> Result<bool, NoMem
 /// complete; 0 where one doesn't.
 fn orders(alloc: Global, columns: u32, rows: u32) -> Result<u32, NoMemory>
     requires columns { 1 ≤ columns }
-    requires few { rows * per_row columns 1 < 2 ^ 32 }
+    requires most { rows * per_row columns 1 < 2 ^ 32 }
 {
     let mut choices = Vec::new(alloc);
     for count in 1..10_000 {

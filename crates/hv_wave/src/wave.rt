@@ -38,7 +38,7 @@ impl Wave {
     pub fn new(alloc: Global, columns: u32, rows: u32, segment: u8) -> Result<Self, NoMemory>
         requires columns { 1 ≤ columns }
         requires segment { 1 ≤ segment }
-        requires few { rows * per_row columns segment < 2 ^ 32 }
+        requires most { rows * per_row columns segment < 2 ^ 32 }
         ensures { IfOk result (λ w. w ≡ opening columns rows segment) }
     {
         let row = Row {

@@ -104,7 +104,7 @@ fn byte(value: u32) -> u8
 
 /// The value of an option that stands at a place among the words.
 fn value_behind(words: &Words, at: u32, option: &str) -> Option<u32>
-    requires few { at < 12 }
+    requires most { at < 12 }
     requires there { at + 1 < length words.now }
     ensures { result ≡ option_value option.now
         (slice_index_or words.now at []) (slice_index_or words.now (at + 1) []) }

@@ -19,8 +19,8 @@ returns-clause-wide c =
     let fits = shift_fits w c.requires.least c.requires.most in
     subst (λ (k : ℕ). 256 ≤ w * 2 ^ k) (sym shift) fits.0
 
-pub returns-clause-narrow : goal.returns-clause-narrow
-returns-clause-narrow c =
+pub returns-clause-result_most : goal.returns-clause-result_most
+returns-clause-result_most c =
     let w = c.args.width in
     let shift = (leading_shift w c.requires.least c.requires.most).1 in
     let fits = shift_fits w c.requires.least c.requires.most in

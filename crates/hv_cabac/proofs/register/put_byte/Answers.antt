@@ -5,8 +5,8 @@ use Rattle.hv_cabac.proofs.register.put_byte.Goals as goal
 
 pub put_carry-requires : goal.put_carry-requires
 put_carry-requires c =
-    let small = lead_small c.args.low c.args.bits c.requires.least c.requires.small in
-    record { small = omega (arith, small) }
+    let small = lead_small c.args.low c.args.bits c.requires.least c.requires.low_most in
+    record { most = omega (arith, small) }
 
 pub returns-clause-same : goal.returns-clause-same
 returns-clause-same c ok room =

@@ -12,7 +12,7 @@ loop-left-preserved c =
     record {
       few = omega arith;
       whole = omega arith;
-      small = rest.small;
+      small = rest.most;
       places = omega (arith, out.length refl);
       same = λ room.
           rest_goes_on old l.out.items new c.args.bits l.left l.rest _ c.args.low l.invariant.places

@@ -8,7 +8,7 @@ pub returns : goal.returns
 returns c =
     let slope = c.slope in
     let offset = c.offset in
-    start_is slope.result c.from.result offset.result c.args.qp slope.ensures.small
-    offset.ensures.small c.from.ensures (omega arith) ∙
+    start_is slope.result c.from.result offset.result c.args.qp slope.ensures.most
+    offset.ensures.most c.from.ensures (omega arith) ∙
     ap₂ (λ (s o : ℤ). int_shr (s *ℤ pos c.args.qp) 4 +ℤ o) slope.ensures.value
     offset.ensures.value

@@ -12,12 +12,12 @@ overflow_cast-result c =
     let e : pos (projected c.args.mode c.args.i) ≡ int_shr (c.way_back.result +ℤ pos 128) 8 =
     projected_is c.args.mode c.args.i c.requires.first c.requires.last c.requires.sample ∙
     ap (λ (z : ℤ). int_shr (z +ℤ pos 128) 8) (sym c.way_back.ensures.value) in
-    let few = place_small c.way_back.result c.way_back.ensures.small in
+    let few = place_small c.way_back.result c.way_back.ensures.most in
     let same = ap unsigned_abs e in
-    rw (place_is c.way_back.result c.way_back.ensures.small, ← e) (tt, omega (arith, few, same))
+    rw (place_is c.way_back.result c.way_back.ensures.most, ← e) (tt, omega (arith, few, same))
 
 pub returns : goal.returns
 unfolding projected
 returns c =
-    ap unsigned_abs (place_is c.way_back.result c.way_back.ensures.small) ∙
+    ap unsigned_abs (place_is c.way_back.result c.way_back.ensures.most) ∙
     ap (λ (z : ℤ). unsigned_abs (int_shr (z +ℤ pos 128) 8)) c.way_back.ensures.value

@@ -14,8 +14,8 @@ pub returns-clause-value : goal.returns-clause-value
 returns-clause-value g c =
     rw c.wide_gaps.ensures (sum_with_gaps c.args.sums c.args.a c.args.b g.row.N c.fits-sums.0 c.fits-a.0 c.fits-b.0)
 
-pub returns-clause-small : goal.returns-clause-small
-returns-clause-small g c =
+pub returns-clause-most : goal.returns-clause-most
+returns-clause-most g c =
     let small : sum_l (zip2 abs_diff c.args.a c.args.b) ≤ 255 * g.row.N = sum_of_gaps c.args.a c.args.b g.row.N c.fits-a.0 c.fits-b.0 c.fits-a.1 c.fits-b.1 in
     let whole = sum_with_gaps c.args.sums c.args.a c.args.b g.row.N c.fits-sums.0 c.fits-a.0 c.fits-b.0 in
     rw c.wide_gaps.ensures (omega (arith, whole, small, sum_of_measures abs_diff c.args.a c.args.b))

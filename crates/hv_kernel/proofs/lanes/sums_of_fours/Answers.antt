@@ -14,8 +14,8 @@ returns-clause-value c = λ j below.
     rw (products_by_ones c.args.lanes 16 c.fits-lanes.0)
     (sum_of_four_at j c.args.lanes (omega (arith, c.fits-lanes.0)) ∙ sum_l_is_sum (take 4 (drop (4 * j) c.args.lanes)))
 
-pub returns-clause-small : goal.returns-clause-small
-returns-clause-small c = λ j below.
+pub returns-clause-most : goal.returns-clause-most
+returns-clause-most c = λ j below.
     let inside : 4 * j + 4 ≤ length c.args.lanes = omega (arith, c.fits-lanes.0) in
     rw (products_by_ones c.args.lanes 16 c.fits-lanes.0, sum_of_four_at j c.args.lanes inside)
     (four_bytes_below (4 * j) c.args.lanes inside (bytes_below c.args.lanes c.fits-lanes.1))

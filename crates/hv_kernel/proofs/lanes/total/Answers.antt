@@ -13,6 +13,6 @@ overflow_add-result g c =
 pub returns-clause-value : goal.returns-clause-value
 returns-clause-value g c = rw (map_same c.args.lanes) (omega (arith, fold-sum 0 c.args.lanes))
 
-pub returns-clause-small : goal.returns-clause-small
-returns-clause-small g c =
+pub returns-clause-most : goal.returns-clause-most
+returns-clause-most g c =
     rw (map_same c.args.lanes) (omega (arith, fold-sum 0 c.args.lanes, sum_of_bytes c.args.lanes g.row.N c.fits-lanes.0 c.fits-lanes.1))

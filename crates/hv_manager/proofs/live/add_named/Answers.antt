@@ -24,10 +24,10 @@ add-requires-2-clause-below c x e =
       c.requires.count,
     )
 
-pub add-requires-2-clause-small : goal.add-requires-2-clause-small
-add-requires-2-clause-small c =
+pub add-requires-2-clause-most : goal.add-requires-2-clause-most
+add-requires-2-clause-most c =
     small_enough 65 c.add.new.live.items (omega arith)
-    (small_more 64 (Some c.args.picture) c.args.live.now.items c.add.new.live.items c.add.ensures.count c.add.ensures.each c.requires.small)
+    (small_more 64 (Some c.args.picture) c.args.live.now.items c.add.new.live.items c.add.ensures.count c.add.ensures.each c.requires.most)
 
 pub add-requires-3-clause-below : goal.add-requires-3-clause-below
 add-requires-3-clause-below c x e =
@@ -40,8 +40,8 @@ add-requires-3-clause-below c x e =
       c.requires.count,
     )
 
-pub add-requires-3-clause-small : goal.add-requires-3-clause-small
-add-requires-3-clause-small c =
+pub add-requires-3-clause-most : goal.add-requires-3-clause-most
+add-requires-3-clause-most c =
     small_enough 66 c.add-2.new.live.items (omega arith)
     (small_more 65 c.first.result c.add.new.live.items c.add-2.new.live.items c.add-2.ensures.count c.add-2.ensures.each
-    (small_more 64 (Some c.args.picture) c.args.live.now.items c.add.new.live.items c.add.ensures.count c.add.ensures.each c.requires.small))
+    (small_more 64 (Some c.args.picture) c.args.live.now.items c.add.new.live.items c.add.ensures.count c.add.ensures.each c.requires.most))

@@ -2,8 +2,8 @@ use Rattle.std.proofs.Common.{arith}
 use Rattle.hv_manager.proofs.CountLemmas.{counted_all, counted_more, counted_small}
 use Rattle.hv_manager.proofs.live.all_live.Goals as goal
 
-pub add_named-requires-clause-small : goal.add_named-requires-clause-small
-add_named-requires-clause-small c =
+pub add_named-requires-clause-most : goal.add_named-requires-clause-most
+add_named-requires-clause-most c =
     counted_small c.args.structure.now c.loop-place.place c.loop-place.live.items
     (omega (arith, c.count-place-end.ensures.value, c.requires.most)) c.loop-place.invariant
 

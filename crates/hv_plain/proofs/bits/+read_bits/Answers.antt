@@ -8,7 +8,7 @@ use Rattle.hv_plain.proofs.bits.+read_bits.Goals as goal
 pub read_bits-requires : goal.read_bits-requires
 read_bits-requires t c =
     let w = within_bits c.args.bytes.now c.args.at c.in-Some.bit c.in-Some.ensures.value in
-    let small = c.in-Some.ensures.small in
+    let small = c.in-Some.ensures.most in
     let bit : c.from.result < 2 = omega (arith, small) in
     let s = doubled_less c.args.offset c.from.result c.args.count (omega arith) bit in
     (omega arith, (omega arith, (omega (arith, w), omega (arith, s))))
@@ -31,7 +31,7 @@ returns-in-Some-clause-value t c = λ variables range.
 
 pub returns-in-Some-clause-below : goal.returns-in-Some-clause-below
 returns-in-Some-clause-below t c =
-    let small = c.in-Some.ensures.small in
+    let small = c.in-Some.ensures.most in
     let bit : c.from.result < 2 = omega (arith, small) in
     let s = doubled_less c.args.offset c.from.result c.args.count (omega arith) bit in
     if_some_more c.read_bits.result

@@ -32,7 +32,7 @@ invariant_of-result c =
     omega (arith, b, c.in_ok-double.ensures.number, c.add.ensures.number, c.doubled.ensures, c.doubled-2.ensures) in (
       omega (arith, len, c.requires.long),
       omega (arith, c.doubled-2.ensures, c.shift_of-times.ensures.wide),
-      omega (arith, c.doubled-2.ensures, c.shift_of-times.ensures.narrow),
+      omega (arith, c.doubled-2.ensures, c.shift_of-times.ensures.result_most_2),
       c.add.ensures.bits,
       subst P (sym len) s,
     )

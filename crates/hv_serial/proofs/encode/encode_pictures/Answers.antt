@@ -53,5 +53,5 @@ returns-in-Ok-eq0 g c =
 pub returns : goal.returns
 returns g c =
     at_too_long _ c.requires.built c.requires.emit _ _ _ _ _ _ _ _ _ _ c.loop-number.number _ _ _ _ c.loop-number.invariant.0
-    (omega (arith, c.loop-number-test.false, c.loop-number.auto.number-end)) c.in-Ok-fill.field-0-test.1 c.in-Ok-fill.ensures.few
+    (omega (arith, c.loop-number-test.false, c.loop-number.auto.number-end)) c.in-Ok-fill.field-0-test.1 c.in-Ok-fill.ensures.most
     c.fill.auto.buffer c.in-Ok-fill.ensures.read

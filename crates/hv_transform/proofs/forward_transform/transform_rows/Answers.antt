@@ -16,7 +16,7 @@ narrow_mean-requires g c =
     let sum : unsigned_abs (dot_of n entries (row_of n c.args.residual.now c.loop-y.y)) ≤ 64 * n * 255 =
     size_of_row_dot n c.loop-y.y 255 (64 * n) entries c.args.residual.now (omega arith) c.requires.range (c.requires.light c.loop-u.u (omega arith)) in
     let bound : unsigned_abs (dot_of n entries c.row.result.now) ≤ 64 * n * 255 = rw (c.row.ensures) sum in
-    (omega arith, (omega arith, (omega arith, (omega arith, (omega arith, omega (arith, bound, c.requires.narrow))))))
+    (omega arith, (omega arith, (omega arith, (omega arith, (omega arith, omega (arith, bound, c.requires.n_most_2))))))
 
 pub loop-y-preserved : goal.loop-y-preserved
 loop-y-preserved g c =

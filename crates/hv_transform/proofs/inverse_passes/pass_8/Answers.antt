@@ -17,32 +17,32 @@ returns g c =
 
 pub row_of_8-requires : goal.row_of_8-requires
 row_of_8-requires g c =
-    (omega arith, (omega arith, (omega arith, (omega arith, (c.requires.numbers 0 (omega arith), (c.requires.weights, (c.requires.some, (c.requires.few, search rules))))))))
+    (omega arith, (omega arith, (omega arith, (omega arith, (c.requires.numbers 0 (omega arith), (c.requires.weights, (c.requires.some, (c.requires.shift_most, search rules))))))))
 
 pub row_of_8-requires-2 : goal.row_of_8-requires-2
 row_of_8-requires-2 g c =
-    (omega arith, (omega arith, (omega arith, (omega arith, (c.requires.numbers 1 (omega arith), (c.requires.weights, (c.requires.some, (c.requires.few, search rules))))))))
+    (omega arith, (omega arith, (omega arith, (omega arith, (c.requires.numbers 1 (omega arith), (c.requires.weights, (c.requires.some, (c.requires.shift_most, search rules))))))))
 
 pub row_of_8-requires-3 : goal.row_of_8-requires-3
 row_of_8-requires-3 g c =
-    (omega arith, (omega arith, (omega arith, (omega arith, (c.requires.numbers 2 (omega arith), (c.requires.weights, (c.requires.some, (c.requires.few, search rules))))))))
+    (omega arith, (omega arith, (omega arith, (omega arith, (c.requires.numbers 2 (omega arith), (c.requires.weights, (c.requires.some, (c.requires.shift_most, search rules))))))))
 
 pub row_of_8-requires-4 : goal.row_of_8-requires-4
 row_of_8-requires-4 g c =
-    (omega arith, (omega arith, (omega arith, (omega arith, (c.requires.numbers 3 (omega arith), (c.requires.weights, (c.requires.some, (c.requires.few, search rules))))))))
+    (omega arith, (omega arith, (omega arith, (omega arith, (c.requires.numbers 3 (omega arith), (c.requires.weights, (c.requires.some, (c.requires.shift_most, search rules))))))))
 
 pub row_of_8-requires-5 : goal.row_of_8-requires-5
 row_of_8-requires-5 g c =
-    (omega arith, (omega arith, (omega arith, (omega arith, (c.requires.numbers 4 (omega arith), (c.requires.weights, (c.requires.some, (c.requires.few, search rules))))))))
+    (omega arith, (omega arith, (omega arith, (omega arith, (c.requires.numbers 4 (omega arith), (c.requires.weights, (c.requires.some, (c.requires.shift_most, search rules))))))))
 
 pub row_of_8-requires-6 : goal.row_of_8-requires-6
 row_of_8-requires-6 g c =
-    (omega arith, (omega arith, (omega arith, (omega arith, (c.requires.numbers 5 (omega arith), (c.requires.weights, (c.requires.some, (c.requires.few, search rules))))))))
+    (omega arith, (omega arith, (omega arith, (omega arith, (c.requires.numbers 5 (omega arith), (c.requires.weights, (c.requires.some, (c.requires.shift_most, search rules))))))))
 
 pub row_of_8-requires-7 : goal.row_of_8-requires-7
 row_of_8-requires-7 g c =
-    (omega arith, (omega arith, (omega arith, (omega arith, (c.requires.numbers 6 (omega arith), (c.requires.weights, (c.requires.some, (c.requires.few, search rules))))))))
+    (omega arith, (omega arith, (omega arith, (omega arith, (c.requires.numbers 6 (omega arith), (c.requires.weights, (c.requires.some, (c.requires.shift_most, search rules))))))))
 
 pub row_of_8-requires-8 : goal.row_of_8-requires-8
 row_of_8-requires-8 g c =
-    (omega arith, (omega arith, (omega arith, (omega arith, (c.requires.numbers 7 (omega arith), (c.requires.weights, (c.requires.some, (c.requires.few, search rules))))))))
+    (omega arith, (omega arith, (omega arith, (omega arith, (c.requires.numbers 7 (omega arith), (c.requires.weights, (c.requires.some, (c.requires.shift_most, search rules))))))))

@@ -13,7 +13,7 @@ put_means-requires g c =
       low = lanes_small 2 0 numbers c.column_of_16.result.0 (omega arith) (omega arith) small c.column_of_16.ensures.first;
       high = lanes_small 2 4 numbers c.column_of_16.result.1 (omega arith) (omega arith) small c.column_of_16.ensures.second;
       some = c.requires.some;
-      few = c.requires.few;
+      shift_most = c.requires.shift_most;
       room = search rules;
     }
 
@@ -27,7 +27,7 @@ put_means-requires-2 g c =
       low = lanes_small 2 8 numbers c.column_of_16.result.2 (omega arith) (omega arith) small c.column_of_16.ensures.third;
       high = lanes_small 2 12 numbers c.column_of_16.result.3 (omega arith) (omega arith) small c.column_of_16.ensures.fourth;
       some = c.requires.some;
-      few = c.requires.few;
+      shift_most = c.requires.shift_most;
       room = search rules;
     }
 

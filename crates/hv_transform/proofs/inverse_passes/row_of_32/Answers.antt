@@ -13,7 +13,7 @@ put_means-requires g c =
       low = lanes_small 3 0 numbers c.column_of_32.result.0 (omega arith) (omega arith) small c.column_of_32.ensures.0;
       high = lanes_small 3 4 numbers c.column_of_32.result.1 (omega arith) (omega arith) small c.column_of_32.ensures.1;
       some = c.requires.some;
-      few = c.requires.few;
+      shift_most = c.requires.shift_most;
       room = search rules;
     }
 
@@ -27,7 +27,7 @@ put_means-requires-2 g c =
       low = lanes_small 3 8 numbers c.column_of_32.result.2 (omega arith) (omega arith) small c.column_of_32.ensures.2;
       high = lanes_small 3 12 numbers c.column_of_32.result.3 (omega arith) (omega arith) small c.column_of_32.ensures.3;
       some = c.requires.some;
-      few = c.requires.few;
+      shift_most = c.requires.shift_most;
       room = search rules;
     }
 
@@ -41,7 +41,7 @@ put_means-requires-3 g c =
       low = lanes_small 3 16 numbers c.column_of_32.result.4 (omega arith) (omega arith) small c.column_of_32.ensures.4;
       high = lanes_small 3 20 numbers c.column_of_32.result.5 (omega arith) (omega arith) small c.column_of_32.ensures.5;
       some = c.requires.some;
-      few = c.requires.few;
+      shift_most = c.requires.shift_most;
       room = search rules;
     }
 
@@ -55,7 +55,7 @@ put_means-requires-4 g c =
       low = lanes_small 3 24 numbers c.column_of_32.result.6 (omega arith) (omega arith) small c.column_of_32.ensures.6;
       high = lanes_small 3 28 numbers c.column_of_32.result.7 (omega arith) (omega arith) small c.column_of_32.ensures.7;
       some = c.requires.some;
-      few = c.requires.few;
+      shift_most = c.requires.shift_most;
       room = search rules;
     }
 

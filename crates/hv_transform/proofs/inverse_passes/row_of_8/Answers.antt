@@ -13,7 +13,7 @@ put_means-requires g c =
       low = lanes_small 1 0 numbers c.column_of_8.result.0 (omega arith) (omega arith) small c.column_of_8.ensures.first;
       high = lanes_small 1 4 numbers c.column_of_8.result.1 (omega arith) (omega arith) small c.column_of_8.ensures.second;
       some = c.requires.some;
-      few = c.requires.few;
+      shift_most = c.requires.shift_most;
       room = c.requires.room;
     }
 

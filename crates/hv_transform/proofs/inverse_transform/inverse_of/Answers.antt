@@ -8,8 +8,8 @@ use Rattle.hv_transform.proofs.PlaceLemmas.{places_few}
 use Rattle.hv_transform.proofs.WeightLemmas.{columns_are_light}
 use Rattle.hv_transform.proofs.inverse_transform.inverse_of.Goals as goal
 
-pub turn-requires-clause-few : goal.turn-requires-clause-few
-turn-requires-clause-few g c = (size_between c.args.log2 g.row.N c.requires.least c.requires.greatest c.requires.size).1
+pub turn-requires-clause-most : goal.turn-requires-clause-most
+turn-requires-clause-most g c = (size_between c.args.log2 g.row.N c.requires.least c.requires.greatest c.requires.size).1
 
 pub transform_columns-requires : goal.transform_columns-requires
 transform_columns-requires g c =

@@ -9,4 +9,4 @@ overflow_cast-result c =
     all_fit 8 (shifted (map (of_z w32) c.args.lanes) (replicate 8 (1 * 2 ^ (c.args.shift - 1) % 4294967296)) (replicate 8 c.args.shift))
 
 pub returns : goal.returns
-returns c = clipped_is 8 c.args.shift c.args.lanes c.requires.some c.requires.few c.requires.eight c.requires.small
+returns c = clipped_is 8 c.args.shift c.args.lanes c.requires.some c.requires.shift_most c.requires.eight c.requires.lanes_most

@@ -19,8 +19,8 @@ joined-requires-clause-second c =
     let numbers : Numbers32 c.args.high = small_numbers c.args.high c.requires.high in
     subst Numbers32 (sym (kept w32 c.args.high numbers)) numbers
 
-pub clipped_means-requires-clause-small : goal.clipped_means-requires-clause-small
-clipped_means-requires-clause-small c =
+pub clipped_means-requires-clause-lanes_most : goal.clipped_means-requires-clause-lanes_most
+clipped_means-requires-clause-lanes_most c =
     let lanes : List ℤ = c.args.low ++ c.args.high in
     let small = small_append c.args.low c.args.high c.requires.low c.requires.high in
     let is : c.joined.result ≡ lanes =

@@ -6,14 +6,14 @@ use Rattle.hv_transform.proofs.scaling.offset_of.Goals as goal
 pub returns-clause-value : goal.returns-clause-value
 returns-clause-value c =
     let step : ℕ = 2 ^ (c.args.shift - 9) in
-    let small : c.offset_of_kind.result * step ≤ 44826624 = mul-le-mul c.offset_of_kind.ensures.small (steps_few c.args.shift c.requires.greatest) in
+    let small : c.offset_of_kind.result * step ≤ 44826624 = mul-le-mul c.offset_of_kind.ensures.most (steps_few c.args.shift c.requires.greatest) in
     let kept : c.offset_of_kind.result * step % 4294967296 ≡ c.offset_of_kind.result * step = omega (arith, small) in
     kept ∙ ap (λ a. a * step) c.offset_of_kind.ensures.value
 
 pub returns-clause-part : goal.returns-clause-part
 returns-clause-part c =
     let step : ℕ = 2 ^ (c.args.shift - 9) in
-    let small : c.offset_of_kind.result * step ≤ 44826624 = mul-le-mul c.offset_of_kind.ensures.small (steps_few c.args.shift c.requires.greatest) in
+    let small : c.offset_of_kind.result * step ≤ 44826624 = mul-le-mul c.offset_of_kind.ensures.most (steps_few c.args.shift c.requires.greatest) in
     let kept : c.offset_of_kind.result * step % 4294967296 ≡ c.offset_of_kind.result * step = omega (arith, small) in
-    let less : c.offset_of_kind.result * step ≤ 171 * step = mul-le-mul_right step c.offset_of_kind.ensures.small in
+    let less : c.offset_of_kind.result * step ≤ 171 * step = mul-le-mul_right step c.offset_of_kind.ensures.most in
     omega (arith, kept, less, whole_step c.args.shift (omega arith))

@@ -6,7 +6,7 @@ returns-clause-some c =
     rw (side_shifted c.args.self.log2 c.args.self.least c.args.self.most)
     (side_some c.args.self.log2 c.args.self.least c.args.self.most)
 
-pub returns-clause-few : goal.returns-clause-few
-returns-clause-few c =
+pub returns-clause-most : goal.returns-clause-most
+returns-clause-most c =
     rw (side_shifted c.args.self.log2 c.args.self.least c.args.self.most)
     (side_few c.args.self.log2 c.args.self.least c.args.self.most)

@@ -13,11 +13,11 @@ overflow_cast-result-2 c =
     let few = side_few c.args.side.log2 c.args.side.least c.args.side.most in
     let e : pos (c.count.result + 1) +ℤ c.shift.result ≡ pos (first c.args.side.log2 c.args.self.number c.args.across) =
     ap₂ (λ (n : ℕ) (s : ℤ). pos (n + 1) +ℤ s) c.count.ensures.value c.shift.ensures.value ∙ sym f.is in
-    rw (first_is c.count.result c.shift.result c.count.ensures.few c.shift.ensures.small, e)
+    rw (first_is c.count.result c.shift.result c.count.ensures.most c.shift.ensures.most, e)
     (tt, omega (arith, f.most, few))
 
 pub returns : goal.returns
 unfolding first
 returns c =
-    ap unsigned_abs (first_is c.count.result c.shift.result c.count.ensures.few c.shift.ensures.small) ∙
+    ap unsigned_abs (first_is c.count.result c.shift.result c.count.ensures.most c.shift.ensures.most) ∙
     ap₂ (λ (n : ℕ) (s : ℤ). unsigned_abs (pos (n + 1) +ℤ s)) c.count.ensures.value c.shift.ensures.value

@@ -12,4 +12,4 @@ returns-clause-value c =
     let below : unsigned_abs c.rem_euclid.result < 32 = c.rem_euclid.ensures.upper_bound in
     ap unsigned_abs (passed_small c.rem_euclid.result (omega arith) ∙ c.rem_euclid.ensures.value) ∙
     ap (λ (z : ℤ). unsigned_abs (int_rem_euclid z (pos 32)))
-    (passed_small c.way.result (omega (arith, c.way.ensures.small)) ∙ c.way.ensures.value)
+    (passed_small c.way.result (omega (arith, c.way.ensures.most)) ∙ c.way.ensures.value)

@@ -12,7 +12,7 @@ size_is n side mode s size e f g = e ∙ ap unsigned_abs f ∙ ap (λ (m : ℕ).
 
 pub overflow_sub-result : goal.overflow_sub-result
 overflow_sub-result c =
-    let small : unsigned_abs c.shift.result ≤ 32 = c.shift.ensures.small in
+    let small : unsigned_abs c.shift.result ≤ 32 = c.shift.ensures.most in
     let e = size_is (2 ^ c.args.side.log2) c.count.result c.args.self.number c.shift.result c.unsigned_abs.result
     (c.unsigned_abs.ensures.value ∙ ap unsigned_abs (passed_small c.shift.result (omega arith)))
     c.shift.ensures.value c.count.ensures.value in
@@ -21,7 +21,7 @@ overflow_sub-result c =
 
 pub returns-then-self-le25 : goal.returns-then-self-le25
 returns-then-self-le25 c =
-    let small : unsigned_abs c.shift.result ≤ 32 = c.shift.ensures.small in
+    let small : unsigned_abs c.shift.result ≤ 32 = c.shift.ensures.most in
     let e = size_is (2 ^ c.args.side.log2) c.count.result c.args.self.number c.shift.result c.unsigned_abs.result
     (c.unsigned_abs.ensures.value ∙ ap unsigned_abs (passed_small c.shift.result (omega arith)))
     c.shift.ensures.value c.count.ensures.value in

@@ -8,8 +8,8 @@ use Rattle.hv_intra.proofs.reference.AngularMode.shift.Goals as goal
 pub returns-clause-value : goal.returns-clause-value
 unfolding shift
 returns-clause-value c =
-    shift_is c.way.result c.way.ensures.small ∙ ap (λ (z : ℤ). int_shr z 5) c.way.ensures.value
+    shift_is c.way.result c.way.ensures.most ∙ ap (λ (z : ℤ). int_shr z 5) c.way.ensures.value
 
-pub returns-clause-small : goal.returns-clause-small
-returns-clause-small c =
-    rw (shift_is c.way.result c.way.ensures.small) (shifted_by_5 c.way.result c.way.ensures.small)
+pub returns-clause-most : goal.returns-clause-most
+returns-clause-most c =
+    rw (shift_is c.way.result c.way.ensures.most) (shifted_by_5 c.way.result c.way.ensures.most)

@@ -8,7 +8,7 @@ add-requires-clause-fits c =
     let low = c.self.inside.low.items in
     let len : length c.double.new.digits.items ≡ length low + 1 = c.in_ok-double.ensures.count in
     let b = half_below (number_of low) (length low) c.self.inside.range c.skip_of.result
-    c.self.invariant.0 c.self.invariant.4 c.skip_of.ensures.few in
+    c.self.invariant.0 c.self.invariant.4 c.skip_of.ensures.most in
     let P : ℕ → Type 0 =
     λ l. number_of c.double.new.digits.items + c.skip_of.result ≤ 510 * 2 ^ (l - 9) in
     let s : P (length low + 1) = omega (arith, b, c.in_ok-double.ensures.number) in
@@ -22,7 +22,7 @@ invariant_of-result c =
     let len : length c.add.new.digits.items ≡ length low + 1 =
     omega (arith, c.in_ok-double.ensures.count, c.add.ensures.count) in
     let b = half_below (number_of low) (length low) c.self.inside.range c.skip_of.result
-    c.self.invariant.0 c.self.invariant.4 c.skip_of.ensures.few in
+    c.self.invariant.0 c.self.invariant.4 c.skip_of.ensures.most in
     let P : ℕ → Type 0 =
     λ l. number_of c.add.new.digits.items + c.self.inside.range ≤ 510 * 2 ^ (l - 9) in
     let s : P (length low + 1) =

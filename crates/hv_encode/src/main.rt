@@ -4,11 +4,13 @@
 
 mod arguments;
 mod exit;
+mod standard_output;
 #[cfg(test)]
 mod tests;
 
 use crate::arguments::words_behind_name;
 use crate::exit::encode_to_exit;
+use crate::standard_output::StandardOutput;
 use hv_types::{StdSink, StdSource};
 use std::env;
 use std::process::ExitCode;
@@ -25,7 +27,7 @@ fn main(rt: HostRuntime) -> ExitCode {
         return ExitCode::from(NO_ARGUMENTS);
     };
     let mut source = StdSource::new(rt.stdin());
-    let mut out = StdSink::new(rt.stdout());
+    let mut out = StandardOutput::new(rt.stdout(), &rt);
     let mut report = StdSink::new(rt.stderr());
     let code = encode_to_exit(&rt, alloc, &words, &mut source, &mut out, &mut report);
     ExitCode::from(code)

@@ -139,19 +139,22 @@ mean_small z s some h =
     let more : 1073741824 * 1 ≤ 1073741824 * 2 ^ s = mul-le-mul_left 1073741824 step in
     size_of_rounded z s 1073741824 some (omega (arith, h, more))
 
-pub clipped_is : (n s : ℕ) (zs : List ℤ) → 0 < s → s ≤ 12 → length zs ≡ n → All (λ z. unsigned_abs z ≤ 1073741824) zs
-    → narrowed (clamped (shifted (map (of_z w32) zs) (replicate n (1 * 2 ^ (s - 1) % 4294967296)) (replicate n s)) (replicate n 4294934528) (replicate n 32767)) ≡ map (λ z. clip16 (rounded z s)) zs
-clipped_is zero s [] some few l h = refl
-clipped_is zero s (z ∷ zs) some few l h = absurd (omega arith)
-clipped_is (suc n) s [] some few l h = absurd (omega arith)
-clipped_is (suc n) s (z ∷ zs) some few l h =
+pub rounded_is : (n s : ℕ) (zs : List ℤ) → 0 < s → s ≤ 12 → length zs ≡ n → All (λ z. unsigned_abs z ≤ 1073741824) zs
+    → map (to_z w32) (shifted (map (of_z w32) zs) (replicate n (1 * 2 ^ (s - 1) % 4294967296)) (replicate n s)) ≡ map (λ z. rounded z s) zs
+rounded_is zero s [] some few l h = refl
+rounded_is zero s (z ∷ zs) some few l h = absurd (omega arith)
+rounded_is (suc n) s [] some few l h = absurd (omega arith)
+rounded_is (suc n) s (z ∷ zs) some few l h =
     let head : unsigned_abs z ≤ 1073741824 = h 0 z (omega arith) in
-    let small : unsigned_abs (rounded z s) ≤ 1073741824 = mean_small z s some head in
-    let here : narrowed (clamped (shifted (of_z w32 z ∷ []) (1 * 2 ^ (s - 1) % 4294967296 ∷ []) (s ∷ [])) (4294934528 ∷ []) (32767 ∷ [])) ≡ clip16 (rounded z s) ∷ [] =
-    ap (λ xs. narrowed (clamped xs (4294934528 ∷ []) (32767 ∷ []))) (one z s some few head) ∙
-    same_by _ _ (of_z w32 (rounded z s)) refl refl ∙
-    ap (λ v. clip16 v ∷ []) (to_z-of_z w32 (rounded z s) (fits (rounded z s) (omega (arith, small)))) in
-    ap₂ (λ a b. a ++ b) here (clipped_is n s zs some few (omega arith) (λ k d below. h (suc k) d (omega (arith, below))))
+    let here : map (to_z w32) (shifted (of_z w32 z ∷ []) (1 * 2 ^ (s - 1) % 4294967296 ∷ []) (s ∷ [])) ≡ rounded z s ∷ [] =
+    ap (map (to_z w32)) (one z s some few head) ∙
+    ap (λ v. v ∷ []) (to_z-of_z w32 (rounded z s) (fits (rounded z s) (omega (arith, mean_small z s some head)))) in
+    ap₂ (λ a b. a ++ b) here (rounded_is n s zs some few (omega arith) (λ k d below. h (suc k) d (omega (arith, below))))
+
+pub means_small : (s : ℕ) (zs : List ℤ) → 0 < s → All (λ z. unsigned_abs z ≤ 1073741824) zs → All (λ z. unsigned_abs z ≤ 1073741824) (map (λ z. rounded z s) zs)
+means_small s [] some h k d below = absurd (omega (arith, below))
+means_small s (z ∷ zs) some h zero d below = mean_small z s some (h 0 z (omega arith))
+means_small s (z ∷ zs) some h (suc k) d below = means_small s zs some (λ k d below. h (suc k) d (omega (arith, below))) k d (omega (arith, below))
 
 -- numbers of a width are kept by both casts
 abbrev pub passed : Width → List ℤ → List ℤ

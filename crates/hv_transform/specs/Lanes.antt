@@ -21,8 +21,8 @@ pub record FourLanes (f : ℕ → ℤ) (lanes : List ℤ) : Type 0 where
 abbrev pub quad : List ℤ → List ℤ → List ℤ → ℕ → ℤ
 quad a b w j =
     int_wrap w32
-    ((at a 0 *ℤ at w (2 * j)) +ℤ (at a 1 *ℤ at w (2 * j + 1)) +ℤ ((at b 0 *ℤ at w (8 + 2 * j)) +ℤ
-    (at b 1 *ℤ at w (8 + 2 * j + 1))))
+    ((at a 0 *ℤ at w (2 * j)) +ℤ (at a 1 *ℤ at w (2 * j + 1)) +ℤ
+    ((at b 0 *ℤ at w (8 + 2 * j)) +ℤ (at b 1 *ℤ at w (8 + 2 * j + 1))))
 
 -- each has 16 bits
 abbrev pub Numbers : List ℤ → Type 0
@@ -45,7 +45,8 @@ weight weights j r = at weights (8 * (r / 2) + 2 * j + r % 2)
 
 -- the sum of n products, of the numbers of column i from the first on
 abbrev pub lane_sum : List ℤ → List (List ℤ) → ℕ → ℕ → ℕ → ℤ
-lane_sum weights rows i first j = sum_of 4 (λ r. weight weights j r *ℤ in_pairs rows i (first + r))
+lane_sum weights rows i first j =
+    sum_of 4 (λ r. weight weights j r *ℤ in_pairs rows i (first + r))
 
 -- the sum over a column of coefficients, at place n (8.6.4.2)
 abbrev pub column_sum : ℕ → (ℕ → ℤ) → ℕ → ℤ
@@ -61,7 +62,8 @@ odd_sum half_log2 c n =
 abbrev pub in_order : ℕ → (ℕ → ℤ) → ℕ → ℤ
 in_order zero c k = c k
 in_order (suc d) c k =
-    cond (nat_eq (k % 2) 1) (c (k / 2)) (in_order d (λ r. c (2 ^ (d + 2) + r)) (k / 2))
+    cond (nat_eq (k % 2) 1) (c (k / 2))
+    (in_order d (λ r. c (2 ^ (d + 2) + r)) (k / 2))
 
 -- the weights of the four sums of a column of four
 abbrev pub HasEven : List ℤ → Type 0
@@ -70,8 +72,8 @@ HasEven weights = (j r : ℕ) → j < 4 → r < 4 → weight weights j r ≡ tra
 -- the weights of four places of an odd half, from place 4 g on, of four coefficients, from 4 q on
 abbrev pub HasOdd : ℕ → ℕ → ℕ → List ℤ → Type 0
 HasOdd log2 g q weights =
-    (j r : ℕ) → j < 4 → r < 4 → weight weights j r ≡ transMatrix log2 (2 * (4 * q + r) + 1)
-    (4 * g + j)
+    (j r : ℕ) → j < 4 → r < 4 →
+    weight weights j r ≡ transMatrix log2 (2 * (4 * q + r) + 1) (4 * g + j)
 
 -- the weights of a side of 2^log2: those of four, and then the odd halves of each side up to it
 pub record HasWeights (log2 : ℕ) (table : List (List ℤ)) : Type 0 where
@@ -127,7 +129,8 @@ ArePairs pairs n table =
 -- in their first columns, rows have the rows of a block of n columns in pairs
 abbrev pub HasPairs : ℕ → ℕ → ℕ → List ℤ → List (List ℤ) → Type 0
 HasPairs d n columns block rows =
-    (i r : ℕ) → i < columns → r < n → in_pairs rows i r ≡ at block (place d r * n + i)
+    (i r : ℕ) → i < columns → r < n →
+    in_pairs rows i r ≡ at block (place d r * n + i)
 
 -- the numbers behind the first eight rows of n columns are 0
 abbrev pub IsShort : ℕ → List ℤ → Type 0

@@ -35,7 +35,7 @@ pub(crate) fn inverse_8(coefficients: &[i32], out: &mut [i16])
 }
 
 /// The residual of a block of 16 columns.
-#[inline(never)]
+#[inline(always)]
 fn whole_16(block: &[i16], out: &mut [i16])
     requires block { length block.now ≡ 256 }
     requires numbers { Numbers block.now }
@@ -102,7 +102,7 @@ pub(crate) fn inverse_16(coefficients: &[i32], out: &mut [i16])
 }
 
 /// The residual of a block of 32 columns.
-#[inline(never)]
+#[inline(always)]
 fn whole_32(block: &[i16], out: &mut [i16])
     requires block { length block.now ≡ 1024 }
     requires numbers { Numbers block.now }

@@ -40,7 +40,7 @@ fn pair_of<const W: usize>(row: &[i16; W], i: usize) -> &[i16; 2]
     &pairs[0]
 }
 
-/// Sums of the products of four numbers of column i, those of the rows p and p + 1, which have
+/// Sums of the products of four numbers of column i: those of the rows p and p + 1, which have
 /// pairs.
 #[inline(always)]
 pub(crate) fn lane_sums<const W: usize, const P: usize>(
@@ -89,17 +89,26 @@ fn joined(low: i32x4, high: i32x4) -> i32x8
     low.shuffle(high, [0, 1, 2, 3, 4, 5, 6, 7])
 }
 
-/// Lanes by 2^shift, rounded to the nearest, a half upwards, and then to the nearest of 16 bits.
+/// Lanes by 2^shift, rounded to the nearest, a half upwards.
 #[inline(always)]
-fn clipped_means(lanes: i32x8, shift: u32) -> i16x8
+fn means(lanes: i32x8, shift: u32) -> i32x8
     requires eight { length lanes ≡ 8 }
     requires lanes_most { All (λ z. unsigned_abs z ≤ 1073741824) lanes }
     requires some { 0 < shift }
     requires shift_most { shift ≤ 12 }
-    ensures { result ≡ map (λ z. clip16 (rounded z shift)) lanes }
+    ensures { result ≡ map (λ z. rounded z shift) lanes }
 {
-    let means = (lanes + i32x8::splat(1 << (shift - 1))) >> i32x8::splat(shift as i32);
-    means
+    (lanes + i32x8::splat(1 << (shift - 1))) >> i32x8::splat(shift as i32)
+}
+
+/// The nearest numbers of 16 bits.
+#[inline(always)]
+fn clipped(lanes: i32x8) -> i16x8
+    requires eight { length lanes ≡ 8 }
+    requires numbers { Numbers32 lanes }
+    ensures { result ≡ map clip16 lanes }
+{
+    lanes
         .simd_clamp(i32x8::splat(-32768), i32x8::splat(32767))
         .cast::<i16>()
 }
@@ -116,5 +125,5 @@ pub(crate) fn put_means(low: i32x4, high: i32x4, shift: u32, out: &mut [i16])
     requires room { length out.old ≡ 8 }
     ensures { out.new ≡ map (λ z. clip16 (rounded z shift)) (low ++ high) }
 {
-    clipped_means(joined(low, high), shift).copy_to_slice(out);
+    clipped(means(joined(low, high), shift)).copy_to_slice(out);
 }

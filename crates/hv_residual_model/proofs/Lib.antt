@@ -1,1 +1,4 @@
+pub mod UnitBinLemmas
+pub mod BinarizationLemmas
+pub mod LevelLemmas
 mod WorkedResiduals

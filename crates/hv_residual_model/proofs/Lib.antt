@@ -1,4 +1,6 @@
 pub mod UnitBinLemmas
 pub mod BinarizationLemmas
 pub mod LevelLemmas
+pub mod ScanLemmas
+pub mod LastPositionLemmas
 mod WorkedResiduals

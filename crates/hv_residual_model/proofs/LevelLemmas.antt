@@ -264,13 +264,13 @@ all_signed (negsuc n ∷ cs) h =
 
 -- ---- what follows the significance
 
-pub this_block : List ℤ → SubBlock
+abbrev pub this_block : List ℤ → SubBlock
 this_block cs = record { levels = cs; greater1_flags = greater1_of cs }
 
 pub reads_levels_of_flags : (b : TransformBlock) (set : ℕ) (cs : List ℤ) →
     list_all has_16_bits cs ≡ true →
     Reads (levels_of_flags b set (map is_significant cs)) (level_bins b set cs) (this_block cs)
-unfolding levels_of_flags level_bins this_block
+unfolding levels_of_flags level_bins
 reads_levels_of_flags b set cs h =
     let ms : List ℕ = magnitudes cs in
     let n : ℕ = length ms in

@@ -3,4 +3,7 @@ pub mod BinarizationLemmas
 pub mod LevelLemmas
 pub mod ScanLemmas
 pub mod LastPositionLemmas
+pub mod SubBlockLemmas
+pub mod ResidualLemmas
+pub mod RangeLemmas
 mod WorkedResiduals

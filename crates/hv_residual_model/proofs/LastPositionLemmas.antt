@@ -1,6 +1,6 @@
 -- The last significant position is read back (7.3.8.11).
-use Rattle.std.proofs.Common.{◌≡◌, ℕ, zero, suc, ◌+◌, ◌-◌, ◌*◌, ◌^◌, ◌<◌, ◌≤◌, Bool, true, refl, sym, ap, ap₂, ◌∙◌, subst, arith, ltb-true}
-use Rattle.std.specs.Prelude.{nat_lt, nat_le, ◌&&◌, ◌++◌}
+use Rattle.std.proofs.Common.{◌≡◌, ℕ, zero, suc, ◌+◌, ◌-◌, ◌*◌, ◌^◌, ◌<◌, ◌≤◌, Bool, true, refl, ap, ap₂, ◌∙◌, arith, ltb-true}
+use Rattle.std.specs.Prelude.{nat_lt, nat_le, ◌&&◌}
 use Rattle.std.proofs.lemmas.Bool.{and_parts, leb-true}
 use Rattle.hv_lemmas.proofs.ComputedLemmas.{all_below, holds_below}
 use Rattle.hv_types.specs.declared.bins.CtxTable.{CtxTable}
@@ -15,7 +15,7 @@ use Rattle.hv_residual_model.specs.ResidualSyntax.{last_sig_coeff_prefix, suffix
 use Rattle.hv_residual_model.specs.ResidualBins.{prefix_of, last_prefix_bins, last_suffix_bins, last_bins}
 use Rattle.hv_residual_model.proofs.UnitBinLemmas.{reads_value}
 use Rattle.hv_residual_model.proofs.BinarizationLemmas.{reads_truncated_unary, reads_small_number}
-use Rattle.hv_residual_model.proofs.ScanLemmas.{Inside, inside}
+use Rattle.hv_residual_model.proofs.ScanLemmas.{inside}
 
 -- ---- by computing: prefixes of coordinates below 32
 
@@ -78,7 +78,7 @@ good b v least most h =
     let log2 : ℕ = b.log2TrafoSize in
     let small = holds_below 32 prefix_is_good prefixes_are_good v (below_32 log2 v least most h) in
     let parts = and_parts (nat_le (first_of_prefix (prefix_of v)) v)
-        (nat_lt (v - first_of_prefix (prefix_of v)) (2 ^ suffix_length (prefix_of v))) small in
+    (nat_lt (v - first_of_prefix (prefix_of v)) (2 ^ suffix_length (prefix_of v))) small in
     let fit = holds_below (2 ^ log2) (prefix_fits log2) (prefixes_fit log2 least most) v h in
     record {
       fits = leb-true (prefix_of v) (2 * log2 - 1) fit;
@@ -131,7 +131,7 @@ reads_last b n least most below =
     let ey : first_of_prefix ay + by' ≡ q.y = omega (arith, gy.from) in
     let back : at (first_of_prefix ax + bx) (first_of_prefix ay + by') ≡ q = ap₂ at ex ey in
     let whole : block_number scan log2
-        (swapped_in scan (at (first_of_prefix ax + bx) (first_of_prefix ay + by'))) ≡ n =
+    (swapped_in scan (at (first_of_prefix ax + bx) (first_of_prefix ay + by'))) ≡ n =
     ap (λ (r : Position). block_number scan log2 (swapped_in scan r)) back ∙
     (ap (block_number scan log2) (swapped_twice scan p) ∙ i.comes_back) in
     reads_then

@@ -1,18 +1,16 @@
 -- What is written of the levels of a sub-block is what is read (7.3.8.11): significance, greater1 and
 -- greater2 flags, signs, and what remains.
-use Rattle.std.proofs.Common.{◌≡◌, ℕ, zero, suc, ◌+◌, ◌-◌, ◌^◌, ◌<◌, ◌≤◌, Bool, true, false, cond, not, List, [], ◌∷◌, ◌++◌, map, length, replicate, ℤ, pos, negsuc, refl, sym, ap, ◌∙◌, subst, arith, ltb-true, ltb-false, le-ltb, true≢false}
-use Rattle.std.specs.Prelude.{nat_lt, nat_eq, ◌&&◌, ◌||◌}
+use Rattle.std.proofs.Common.{◌≡◌, ℕ, zero, suc, ◌+◌, ◌-◌, ◌<◌, ◌≤◌, Bool, true, false, cond, not, List, [], ◌∷◌, map, length, replicate, ℤ, pos, negsuc, refl, sym, ap, ◌∙◌, subst, arith, ltb-true, ltb-false, le-ltb, true≢false}
+use Rattle.std.specs.Prelude.{nat_lt, ◌&&◌, ◌||◌}
 use Rattle.std.specs.List.{list_all}
 use Rattle.std.specs.Int.{is_negative}
-use Rattle.std.specs.Int.RustNames.{unsigned_abs}
 use Rattle.std.proofs.lemmas.Bool.{and_parts}
-use Rattle.hv_stream_model.specs.Scripts.{Script, Done, Ask, ask, only_if, ◌>>=◌, Reads, nothing, one}
+use Rattle.hv_stream_model.specs.Scripts.{Done, only_if, ◌>>=◌, Reads, nothing, one}
 use Rattle.hv_stream_model.proofs.ScriptLemmas.{reads_then, reads_map, reads_ask, where_true}
-use Rattle.hv_residual_model.specs.UnitBins.{UnitQuestion, InBypass, UnitBin, unit_bin}
-use Rattle.hv_residual_model.specs.Binarization.{coeff_abs_level_remaining, remaining_bins}
-use Rattle.hv_residual_model.specs.ResidualContexts.{TransformBlock, next_greater1Ctx, greater1_at, greater2_at}
+use Rattle.hv_residual_model.specs.UnitBins.{UnitQuestion, unit_bin}
+use Rattle.hv_residual_model.specs.ResidualContexts.{TransformBlock, next_greater1Ctx, greater2_at}
 use Rattle.hv_residual_model.specs.ResidualSyntax.{any, sig_coeff_flags, greater1_flags, greater2_flag, sign_flags, Base, base, bases, next_cRiceParam, with_sign, has_16_bits, significant_levels, count, with_zeros, SubBlock, most_greater1_flags, levels_of_flags}
-use Rattle.hv_residual_model.specs.ResidualBins.{is_zero, is_significant, any_significant, sig_coeff_bins, only_if_so, magnitudes, signs, greater1_values, greater1_bins, first_above_1, greater2_value, greater2_bins, sign_bins, all_remaining_bins, bases_of, level_bins, greater1_of}
+use Rattle.hv_residual_model.specs.ResidualBins.{is_significant, any_significant, sig_coeff_bins, only_if_so, magnitudes, signs, greater1_values, greater1_bins, first_above_1, greater2_value, greater2_bins, sign_bins, all_remaining_bins, bases_of, level_bins, greater1_of}
 use Rattle.hv_residual_model.proofs.UnitBinLemmas.{reads_value}
 use Rattle.hv_residual_model.proofs.BinarizationLemmas.{reads_remaining}
 
@@ -122,18 +120,18 @@ reads_level_by b bs m ms s ss l ls k h g ih true e =
     let w : b.baseLevel + (m - b.baseLevel) ≡ m = omega (arith, h.0) in
     let test : has_16_bits (with_sign s m) ≡ true = rw g.0 g.1 in
     let rest : Reads
-        (only_if (has_16_bits (with_sign s m))
-        (significant_levels bs ss (next_cRiceParam k m) >>= λ levels.
-        Done (with_sign s m ∷ levels)))
-        (all_remaining_bins bs ms (next_cRiceParam k m)) (l ∷ ls) =
+    (only_if (has_16_bits (with_sign s m))
+    (significant_levels bs ss (next_cRiceParam k m) >>= λ levels.
+    Done (with_sign s m ∷ levels)))
+    (all_remaining_bins bs ms (next_cRiceParam k m)) (l ∷ ls) =
     where_true (has_16_bits (with_sign s m)) test
     (reads_value (reads_map (λ (levels : List ℤ). with_sign s m ∷ levels) (ih (next_cRiceParam k m)))
     (ap (λ (x : ℤ). x ∷ ls) g.0)) in
     let here : Reads
-        (only_if (has_16_bits (with_sign s (b.baseLevel + (m - b.baseLevel))))
-        (significant_levels bs ss (next_cRiceParam k (b.baseLevel + (m - b.baseLevel))) >>= λ levels.
-        Done (with_sign s (b.baseLevel + (m - b.baseLevel)) ∷ levels)))
-        (all_remaining_bins bs ms (next_cRiceParam k m)) (l ∷ ls) =
+    (only_if (has_16_bits (with_sign s (b.baseLevel + (m - b.baseLevel))))
+    (significant_levels bs ss (next_cRiceParam k (b.baseLevel + (m - b.baseLevel))) >>= λ levels.
+    Done (with_sign s (b.baseLevel + (m - b.baseLevel)) ∷ levels)))
+    (all_remaining_bins bs ms (next_cRiceParam k m)) (l ∷ ls) =
     rw w rest in
     rw e (reads_then
     (λ (remaining : ℕ).
@@ -280,31 +278,31 @@ reads_levels_of_flags b set cs h =
     let made : List ℤ → SubBlock =
     λ levels. record { levels = with_zeros flags levels; greater1_flags = greater1 } in
     let levels : Reads (significant_levels (bases true greater2 greater1 n) (signs cs) 0)
-        (all_remaining_bins (bases_of ms) ms 0) (non_zero cs) =
+    (all_remaining_bins (bases_of ms) ms 0) (non_zero cs) =
     reads_levels (bases_of ms) ms (signs cs) (non_zero cs) 0
     (allows most_greater1_flags ms (all_positive cs)) (all_signed cs h) in
     let last : Reads
-        (significant_levels (bases true greater2 greater1 n) (signs cs) 0 >>= λ ls. Done (made ls))
-        (all_remaining_bins (bases_of ms) ms 0) (this_block cs) =
+    (significant_levels (bases true greater2 greater1 n) (signs cs) 0 >>= λ ls. Done (made ls))
+    (all_remaining_bins (bases_of ms) ms 0) (this_block cs) =
     reads_value (reads_map made levels)
     (ap (λ (xs : List ℤ). record { levels = xs; greater1_flags = greater1 }) (all_placed cs)) in
     let some_signs : Reads (sign_flags n) (sign_bins (signs cs)) (signs cs) =
     subst (λ (k : ℕ). Reads (sign_flags k) (sign_bins (signs cs)) (signs cs)) (as_many_signs cs)
     (reads_signs (signs cs)) in
     let after_signs = reads_then
-        (λ ss. significant_levels (bases true greater2 greater1 n) ss 0 >>= λ ls. Done (made ls))
-        some_signs last in
+    (λ ss. significant_levels (bases true greater2 greater1 n) ss 0 >>= λ ls. Done (made ls))
+    some_signs last in
     let after_greater2 = reads_then
-        (λ g. sign_flags n >>= λ ss.
-        significant_levels (bases true g greater1 n) ss 0 >>= λ ls. Done (made ls))
-        (reads_greater2 b set ms) after_signs in
+    (λ g. sign_flags n >>= λ ss.
+    significant_levels (bases true g greater1 n) ss 0 >>= λ ls. Done (made ls))
+    (reads_greater2 b set ms) after_signs in
     let all_flags : Reads
-        (greater1_flags b set most_greater1_flags n 1 >>= λ gs.
-        greater2_flag b set gs >>= λ g.
-        sign_flags n >>= λ ss.
-        significant_levels (bases true g gs n) ss 0 >>= λ ls.
-        Done (record { levels = with_zeros flags ls; greater1_flags = gs }))
-        (level_bins b set cs) (this_block cs) =
+    (greater1_flags b set most_greater1_flags n 1 >>= λ gs.
+    greater2_flag b set gs >>= λ g.
+    sign_flags n >>= λ ss.
+    significant_levels (bases true g gs n) ss 0 >>= λ ls.
+    Done (record { levels = with_zeros flags ls; greater1_flags = gs }))
+    (level_bins b set cs) (this_block cs) =
     reads_then
     (λ gs. greater2_flag b set gs >>= λ g.
     sign_flags n >>= λ ss.

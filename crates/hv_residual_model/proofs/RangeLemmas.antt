@@ -1,14 +1,13 @@
 -- Whatever answers: the levels that are read of a block have 16 bits (7.4.9.11).
-use Rattle.std.proofs.Common.{◌≡◌, ℕ, zero, suc, ◌+◌, ◌-◌, ◌*◌, ◌/◌, ◌%◌, ◌^◌, ◌<◌, ◌≤◌, Bool, true, false, cond, not, List, [], ◌∷◌, ◌++◌, length, replicate, ℤ, pos, negsuc, refl, sym, ap, ◌∙◌, subst, arith}
+use Rattle.std.proofs.Common.{◌≡◌, ℕ, zero, suc, ◌+◌, ◌-◌, ◌*◌, ◌/◌, ◌%◌, ◌^◌, ◌<◌, Bool, true, false, cond, List, [], ◌∷◌, ◌++◌, length, replicate, ℤ, pos, refl, arith}
 use Rattle.std.specs.Prelude.{nat_lt, slice_index_or, ◌&&◌}
 use Rattle.std.specs.List.{list_all}
 use Rattle.std.proofs.lemmas.Bool.{and_parts, cond_both}
 use Rattle.hv_lemmas.specs.Lists.{tabulate}
 use Rattle.hv_lemmas.proofs.ListLemmas.{length-tabulate}
-use Rattle.hv_stream_model.specs.Scripts.{Script, Done, Ask, Fail, only_if, ◌>>=◌, Reads, nothing, one}
+use Rattle.hv_stream_model.specs.Scripts.{Done, Ask, Fail, only_if, ◌>>=◌, Reads, nothing, one}
 use Rattle.hv_residual_model.specs.UnitBins.{UnitBin, UnitScript}
 use Rattle.hv_residual_model.specs.Binarization.{coeff_abs_level_remaining}
-use Rattle.hv_residual_model.specs.ScanOrder.{at, block_number}
 use Rattle.hv_residual_model.specs.ResidualContexts.{TransformBlock, ctxSet}
 use Rattle.hv_residual_model.specs.ResidualSyntax.{Earlier, nothing_earlier, behind_sub_block, sig_coeff_of, sig_coeff_flags, greater1_flags, greater2_flag, sign_flags, Base, base, bases, next_cRiceParam, with_sign, has_16_bits, significant_levels, count, with_zeros, SubBlock, most_greater1_flags, levels_of_flags, last_sub_block, positions, coded_sub_block_flag, sub_block, sub_blocks_below, last_sig_coeff, level_of_number, by_rows, residual_coding}
 use Rattle.hv_residual_model.specs.ResidualLaws.{LevelsThatAreReadHave16Bits}
@@ -190,7 +189,7 @@ rows_are_block : (b : TransformBlock) (levels : List ℤ) → AllSmall levels �
 rows_are_block b levels h =
     let side : ℕ = 2 ^ b.log2TrafoSize in (
       length-tabulate (side * side) _,
-      small_tabulated (side * side) _ (λ i. small_number levels h _)
+      small_tabulated (side * side) _ (λ i. small_number levels h _),
     )
 
 gives_residual : (b : TransformBlock) → Gives (IsBlock b) (residual_coding b)

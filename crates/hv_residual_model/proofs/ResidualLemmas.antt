@@ -1,22 +1,21 @@
 -- The levels of a whole block are read back (7.3.8.11).
-use Rattle.std.proofs.Common.{◌≡◌, ℕ, zero, suc, ◌+◌, ◌-◌, ◌*◌, ◌/◌, ◌%◌, ◌^◌, ◌<◌, ◌≤◌, Bool, true, false, cond, not, List, [], ◌∷◌, ◌++◌, length, ℤ, pos, negsuc, refl, sym, ap, ◌∙◌, subst, arith, ltb-true, ltb-false, lt-ltb, le-ltb, true≢false, pow_pos, inl, inr, below_more, add-one, mod-lt}
-use Rattle.std.specs.Prelude.{nat_lt, slice_index_or, ◌||◌, ◌⊎◌}
+use Rattle.std.proofs.Common.{◌≡◌, ℕ, zero, suc, ◌+◌, ◌-◌, ◌*◌, ◌/◌, ◌%◌, ◌^◌, ◌<◌, Bool, true, false, List, [], ◌∷◌, ◌++◌, length, ℤ, pos, negsuc, refl, sym, ap, ◌∙◌, subst, arith, ltb-true, ltb-false, true≢false, pow_pos, inl, inr, below_more, add-one, mod-lt}
+use Rattle.std.specs.Prelude.{nat_lt, slice_index_or, ◌⊎◌}
 use Rattle.std.specs.List.{list_all}
 use Rattle.std.proofs.Math.Nat.{div-lt_iff_lt-mul}
 use Rattle.std.proofs.lemmas.Nat.{div-add-mod'}
-use Rattle.std.proofs.lemmas.Bool.{cond_both, cases_lt}
+use Rattle.std.proofs.lemmas.Bool.{cond_both}
 use Rattle.hv_lemmas.specs.Lists.{tabulate}
 use Rattle.hv_lemmas.proofs.ListLemmas.{tabulate-same, tabulate_own}
-use Rattle.hv_plan.specs.declared.prediction.Scan.{Scan}
 use Rattle.hv_stream_model.specs.Scripts.{Done, ◌>>=◌, Reads}
 use Rattle.hv_stream_model.proofs.ScriptLemmas.{reads_then, reads_map}
-use Rattle.hv_residual_model.specs.ScanOrder.{at, block_position, block_number}
+use Rattle.hv_residual_model.specs.ScanOrder.{at, block_number}
 use Rattle.hv_residual_model.specs.ResidualContexts.{TransformBlock}
 use Rattle.hv_residual_model.specs.ResidualSyntax.{has_16_bits, nothing_earlier, behind_sub_block, last_sub_block, sub_blocks_below, level_of_number, by_rows, residual_coding}
-use Rattle.hv_residual_model.specs.ResidualBins.{level_at, downwards, levels_below, is_zero, is_significant, any_significant, last_below, last_significant, last_sub_block_bins, behind_levels, bins_from, residual_bins}
+use Rattle.hv_residual_model.specs.ResidualBins.{level_at, downwards, levels_below, is_significant, any_significant, last_below, last_significant, last_sub_block_bins, behind_levels, bins_from, residual_bins}
 use Rattle.hv_residual_model.specs.ResidualLaws.{HasSide, AreLevels}
 use Rattle.hv_residual_model.proofs.UnitBinLemmas.{reads_value}
-use Rattle.hv_residual_model.proofs.ScanLemmas.{Inside, inside, Comes, comes}
+use Rattle.hv_residual_model.proofs.ScanLemmas.{comes}
 use Rattle.hv_residual_model.proofs.LastPositionLemmas.{reads_last}
 use Rattle.hv_residual_model.proofs.SubBlockLemmas.{length-downwards, downwards-both, small_below, as_many, read_block, reads_sub_blocks, reads_last_sub_block}
 
@@ -62,7 +61,7 @@ none_or_last_by b levels m (inr last) false e =
       below = let h = last.below in omega (arith, h);
       there = last.there;
       rest = λ n a c.
-      below_more Holds m (λ k less more. last.rest k more less) (λ more. e) n (omega (arith, c)) a;
+          below_more Holds m (λ k less more. last.rest k more less) (λ more. e) n (omega (arith, c)) a;
     }))
 
 none_or_last : (b : TransformBlock) (levels : List ℤ) (m : ℕ) →
@@ -108,8 +107,8 @@ is_at b levels i side h =
     record {
       below = c.below;
       same =
-      ap (λ p. slice_index_or levels (p.y * s + p.x) (pos 0)) c.same ∙
-      ap (λ (k : ℕ). slice_index_or levels k (pos 0)) whole;
+          ap (λ p. slice_index_or levels (p.y * s + p.x) (pos 0)) c.same ∙
+          ap (λ (k : ℕ). slice_index_or levels k (pos 0)) whole;
     }
 
 -- ---- by rows
@@ -151,7 +150,7 @@ some_last_by : (b : TransformBlock) (levels : List ℤ) → HasSide b → AreLev
 some_last_by b levels side h (inr last) = last
 some_last_by b levels side h (inl none) =
     let zero_at : (i : ℕ) → i < length levels →
-        is_significant (slice_index_or levels i (pos 0)) ≡ false =
+    is_significant (slice_index_or levels i (pos 0)) ≡ false =
     λ i less.
     let place = is_at b levels i side (let w = h.whole in omega (arith, w, less)) in
     let there : is_significant (level_at b levels (number_at b i)) ≡ false =
@@ -196,8 +195,8 @@ reads_residual b levels side h =
     (small_below b levels h.small s (i + 1)) in
     let there : is_significant c ≡ true = rw back last.there in
     let here : Reads (last_sub_block b s i)
-        (last_sub_block_bins b s (levels_below b levels s (i + 1)))
-        (read_block true (levels_below b levels s (i + 1))) =
+    (last_sub_block_bins b s (levels_below b levels s (i + 1)))
+    (read_block true (levels_below b levels s (i + 1))) =
     rw front (subst (λ (k : ℕ). Reads (last_sub_block b s k) (last_sub_block_bins b s (c ∷ cs))
     (read_block true (c ∷ cs))) (as_many b levels s i)
     (reads_last_sub_block b s c cs small there)) in
@@ -208,9 +207,9 @@ reads_residual b levels side h =
     let value : by_rows b (these ++ downwards (16 * s) f) ≡ levels =
     ap (by_rows b) whole ∙ rows_come_back b levels n side h.whole last in
     let rest = reads_value
-        (reads_map (λ (ls : List ℤ). by_rows b (these ++ ls))
-        (reads_sub_blocks b levels h.small s (behind_levels b s nothing_earlier true these)))
-        value in
+    (reads_map (λ (ls : List ℤ). by_rows b (these ++ ls))
+    (reads_sub_blocks b levels h.small s (behind_levels b s nothing_earlier true these)))
+    value in
     reads_then
     (λ l. last_sub_block b (l / 16) (l % 16) >>= λ this.
     sub_blocks_below b (l / 16)

@@ -1,5 +1,5 @@
 -- Scans (6.5.3 to 6.5.5) number the positions of a block one to one.
-use Rattle.std.proofs.Common.{◌≡◌, ℕ, zero, suc, ◌+◌, ◌-◌, ◌*◌, ◌/◌, ◌%◌, ◌^◌, ◌<◌, ◌≤◌, Bool, true, false, List, refl, sym, ap, ap₂, ◌∙◌, subst, arith, ltb-true, pow-add, pow-suc}
+use Rattle.std.proofs.Common.{◌≡◌, ℕ, zero, suc, ◌+◌, ◌-◌, ◌*◌, ◌/◌, ◌%◌, ◌^◌, ◌<◌, ◌≤◌, Bool, true, List, refl, ap, ap₂, ◌∙◌, arith, ltb-true, pow-add}
 use Rattle.std.specs.Prelude.{nat_eq, nat_lt, ◌&&◌, slice_index_or}
 use Rattle.std.proofs.lemmas.Bool.{and_parts, eqb-true}
 use Rattle.hv_lemmas.proofs.ComputedLemmas.{all_below, holds_below}
@@ -199,7 +199,7 @@ comes scan log2 x y least most xs ys =
     let all = sixteen_times log2 least most in
     let side = four_times log2 least in
     let s = placed scan k (x / 4) (y / 4) (omega arith) (omega (arith, side, xs))
-        (omega (arith, side, ys)) in
+    (omega (arith, side, ys)) in
     let p = placed scan 2 (x % 4) (y % 4) (omega arith) (omega arith) (omega arith) in
     let a : ℕ = number_of scan k (at (x / 4) (y / 4)) in
     let c : ℕ = number_of scan 2 (at (x % 4) (y % 4)) in
@@ -215,5 +215,5 @@ comes scan log2 x y least most xs ys =
     record {
       below = omega (arith, all, few, s.below);
       same =
-      ap₂ (λ (q r : Position). at (4 * q.x + r.x) (4 * q.y + r.y)) S P ∙ ap₂ at xe ye;
+          ap₂ (λ (q r : Position). at (4 * q.x + r.x) (4 * q.y + r.y)) S P ∙ ap₂ at xe ye;
     }

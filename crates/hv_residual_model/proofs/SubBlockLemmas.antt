@@ -1,15 +1,15 @@
 -- Sub-blocks, one after another, are read back (7.3.8.11).
-use Rattle.std.proofs.Common.{◌≡◌, ℕ, zero, suc, ◌+◌, ◌-◌, ◌*◌, ◌^◌, ◌<◌, ◌≤◌, Bool, true, false, List, [], ◌∷◌, ◌++◌, map, length, replicate, ℤ, pos, negsuc, refl, sym, ap, ◌∙◌, subst, arith, append_assoc, true≢false, lt-ltb}
-use Rattle.std.specs.Prelude.{nat_lt, ◌&&◌, ◌||◌, slice_index_or}
+use Rattle.std.proofs.Common.{◌≡◌, ℕ, zero, suc, ◌+◌, ◌*◌, Bool, true, false, List, [], ◌∷◌, ◌++◌, map, length, replicate, ℤ, pos, negsuc, refl, sym, ap, ◌∙◌, subst, arith, true≢false}
+use Rattle.std.specs.Prelude.{nat_lt, slice_index_or}
 use Rattle.std.specs.List.{list_all}
 use Rattle.std.proofs.lemmas.Bool.{and_parts}
 use Rattle.hv_stream_model.specs.Scripts.{Done, ◌>>=◌, Reads, nothing}
 use Rattle.hv_stream_model.proofs.ScriptLemmas.{reads_then, reads_map, reads_ask}
 use Rattle.hv_residual_model.specs.ResidualContexts.{TransformBlock, coded_sub_block_at, ctxSet}
-use Rattle.hv_residual_model.specs.ResidualSyntax.{Earlier, nothing_earlier, sub_block_at, right_flag, below_flag, behind_sub_block, sig_coeff_of, sig_coeff_flags, has_16_bits, count, SubBlock, levels_of_flags, last_sub_block, positions, coded_sub_block_flag, sub_block, sub_blocks_below}
-use Rattle.hv_residual_model.specs.ResidualBins.{level_at, downwards, levels_below, is_significant, any_significant, sig_coeff_bins, level_bins, greater1_of, coded_sub_block_value, coded_sub_block_bins, sub_block_bins, greater1_if, behind_levels, sub_blocks_bins, last_sub_block_bins}
+use Rattle.hv_residual_model.specs.ResidualSyntax.{Earlier, nothing_earlier, sub_block_at, right_flag, below_flag, behind_sub_block, sig_coeff_of, sig_coeff_flags, has_16_bits, SubBlock, levels_of_flags, last_sub_block, positions, coded_sub_block_flag, sub_block, sub_blocks_below}
+use Rattle.hv_residual_model.specs.ResidualBins.{level_at, downwards, levels_below, is_significant, any_significant, sig_coeff_bins, level_bins, coded_sub_block_value, coded_sub_block_bins, sub_block_bins, greater1_if, behind_levels, sub_blocks_bins, last_sub_block_bins}
 use Rattle.hv_residual_model.proofs.UnitBinLemmas.{reads_value}
-use Rattle.hv_residual_model.proofs.LevelLemmas.{reads_sig_coeff, reads_levels_of_flags, this_block, counted}
+use Rattle.hv_residual_model.proofs.LevelLemmas.{reads_sig_coeff, reads_levels_of_flags}
 
 -- ---- lists downwards
 
@@ -91,9 +91,9 @@ reads_coded : (b : TransformBlock) (s : ℕ) (e : Earlier) (cs : List ℤ) →
 reads_coded b s e cs l small h =
     let sure : Bool = nat_lt 0 s in
     let i = subst (λ (n : ℕ).
-        Reads (sig_coeff_flags (sig_coeff_of b s e) n sure)
-        (sig_coeff_bins (sig_coeff_of b s e) cs sure) (map is_significant cs)) l
-        (reads_sig_coeff (sig_coeff_of b s e) cs sure h) in
+    Reads (sig_coeff_flags (sig_coeff_of b s e) n sure)
+    (sig_coeff_bins (sig_coeff_of b s e) cs sure) (map is_significant cs)) l
+    (reads_sig_coeff (sig_coeff_of b s e) cs sure h) in
     reads_then (λ flags. levels_of_flags b (ctxSet b s e.had_greater1) flags) i
     (reads_levels_of_flags b (ctxSet b s e.had_greater1) cs small)
 
@@ -139,11 +139,11 @@ reads_sub_blocks b levels small (suc s) e =
     let cs : List ℤ = levels_below b levels s positions in
     let flag : Bool = coded_sub_block_value s cs in
     let here = reads_sub_block b s e cs (as_many b levels s positions)
-        (small_below b levels small s positions) in
+    (small_below b levels small s positions) in
     let rest = reads_value
-        (reads_map (λ (ls : List ℤ). cs ++ ls)
-        (reads_sub_blocks b levels small s (behind_levels b s e flag cs)))
-        (sixteen_more b levels s) in
+    (reads_map (λ (ls : List ℤ). cs ++ ls)
+    (reads_sub_blocks b levels small s (behind_levels b s e flag cs)))
+    (sixteen_more b levels s) in
     reads_then
     (λ f. sub_block b s e f >>= λ this.
     sub_blocks_below b s (behind_sub_block b s e f this.greater1_flags) >>= λ ls.
@@ -164,7 +164,7 @@ reads_last_sub_block b s c cs small k =
     let set : ℕ = ctxSet b s false in
     let all = reads_levels_of_flags b set (c ∷ cs) small in
     let first : Reads (levels_of_flags b set (true ∷ map is_significant cs))
-        (level_bins b set (c ∷ cs)) (read_block true (c ∷ cs)) =
+    (level_bins b set (c ∷ cs)) (read_block true (c ∷ cs)) =
     subst (λ (v : Bool). Reads (levels_of_flags b set (v ∷ map is_significant cs))
     (level_bins b set (c ∷ cs)) (read_block true (c ∷ cs))) k all in
     reads_then (λ flags. levels_of_flags b set (true ∷ flags))

@@ -1,6 +1,6 @@
 -- What a script of a unit's bins reads, it reads of them among the bins of a slice.
-use Rattle.std.proofs.Common.{◌≡◌, Bool, List, [], ◌∷◌, map, subst}
-use Rattle.hv_stream_model.specs.Scripts.{Script, Reads, nothing, one}
+use Rattle.std.proofs.Common.{◌≡◌, List, map, subst}
+use Rattle.hv_stream_model.specs.Scripts.{Reads, nothing, one}
 use Rattle.hv_residual_model.specs.UnitBins.{UnitBin, UnitScript, slice_bin, in_slice}
 
 -- the value by another name

@@ -1,6 +1,6 @@
 -- Binarizations (9.3.3) as scripts, and the bins that they read. A number's binarization is a list
 -- of bins; how each bin is decoded is said where a binarization is used.
-use Rattle.std.specs.Prelude.{ℕ, zero, suc, ◌+◌, ◌-◌, ◌*◌, ◌/◌, ◌%◌, ◌^◌, Bool, true, false, cond, nat_eq, nat_lt, List, [], ◌∷◌, ◌++◌}
+use Rattle.std.specs.Prelude.{ℕ, zero, suc, ◌+◌, ◌-◌, ◌*◌, ◌/◌, ◌%◌, ◌^◌, true, false, cond, nat_eq, nat_lt, List, [], ◌∷◌, ◌++◌}
 use Rattle.hv_stream_model.specs.Scripts.{Done, Ask, Fail, ◌>>=◌}
 use Rattle.hv_residual_model.specs.UnitBins.{UnitQuestion, InBypass, UnitBin, UnitScript, unit_bin}
 

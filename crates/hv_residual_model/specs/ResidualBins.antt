@@ -1,12 +1,12 @@
 -- The bins of the levels of a transform block (7.3.8.11), as they are written.
-use Rattle.std.specs.Prelude.{ℕ, zero, suc, ◌+◌, ◌-◌, ◌*◌, ◌/◌, ◌%◌, ◌^◌, Bool, true, false, cond, not, nat_eq, nat_lt, ◌&&◌, ◌||◌, List, [], ◌∷◌, ◌++◌, length, map, slice_index_or, ℤ, pos, negsuc}
+use Rattle.std.specs.Prelude.{ℕ, zero, suc, ◌+◌, ◌-◌, ◌*◌, ◌/◌, ◌%◌, ◌^◌, Bool, true, false, cond, not, nat_lt, ◌&&◌, ◌||◌, List, [], ◌∷◌, ◌++◌, length, map, slice_index_or, ℤ, pos, negsuc}
 use Rattle.std.specs.Int.{is_negative}
 use Rattle.std.specs.Int.RustNames.{unsigned_abs}
 use Rattle.hv_types.specs.declared.bins.CtxTable.{CtxTable}
 use Rattle.hv_types.specs.declared.bins.CtxTable.TheVariants.{LastX, LastY}
 use Rattle.hv_residual_model.specs.UnitBins.{UnitQuestion, InBypass, UnitBin, unit_bin}
 use Rattle.hv_residual_model.specs.Binarization.{fixed_length_bins, truncated_unary_bins, remaining_bins}
-use Rattle.hv_residual_model.specs.ScanOrder.{Position, at, block_position}
+use Rattle.hv_residual_model.specs.ScanOrder.{block_position}
 use Rattle.hv_residual_model.specs.ResidualContexts.{TransformBlock, last_prefix_at, coded_sub_block_at, ctxSet, next_greater1Ctx, greater1_at, greater2_at}
 use Rattle.hv_residual_model.specs.ResidualSyntax.{suffix_length, first_of_prefix, swapped_in, Earlier, nothing_earlier, sub_block_at, right_flag, below_flag, any, behind_sub_block, sig_coeff_of, Base, bases, next_cRiceParam, most_greater1_flags, positions}
 

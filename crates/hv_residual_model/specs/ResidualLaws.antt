@@ -1,9 +1,8 @@
 -- What is read of the bins of a transform block's levels is what was coded, and what is read has 16
 -- bits.
-use Rattle.std.specs.Prelude.{◌≡◌, ℕ, ◌≤◌, ◌^◌, ◌*◌, Bool, true, List, length, map, ℤ}
+use Rattle.std.specs.Prelude.{◌≡◌, ◌≤◌, ◌^◌, ◌*◌, true, List, length, map, ℤ}
 use Rattle.std.specs.List.{list_all}
-use Rattle.hv_stream_model.specs.Scripts.{Script, Done, Ask, Fail, Reads}
-use Rattle.hv_types.specs.Bins.{Question, Bin}
+use Rattle.hv_stream_model.specs.Scripts.{Reads}
 use Rattle.hv_residual_model.specs.UnitBins.{UnitBin, UnitScript, slice_bin, in_slice}
 use Rattle.hv_residual_model.specs.ResidualContexts.{TransformBlock}
 use Rattle.hv_residual_model.specs.ResidualSyntax.{has_16_bits, residual_coding}

@@ -7,7 +7,7 @@ use Rattle.hv_types.specs.declared.bins.CtxTable.TheVariants.{LastX, LastY}
 use Rattle.hv_plan.specs.declared.prediction.Scan.{Scan}
 use Rattle.hv_plan.specs.declared.prediction.Scan.TheVariants.{Diagonal, Horizontal, Vertical}
 use Rattle.hv_lemmas.specs.Lists.{tabulate}
-use Rattle.hv_stream_model.specs.Scripts.{Script, Done, Ask, ask, only_if, ◌>>=◌}
+use Rattle.hv_stream_model.specs.Scripts.{Done, Ask, ask, only_if, ◌>>=◌}
 use Rattle.hv_residual_model.specs.UnitBins.{UnitQuestion, InBypass, UnitScript}
 use Rattle.hv_residual_model.specs.Binarization.{fixed_length, truncated_unary, coeff_abs_level_remaining}
 use Rattle.hv_residual_model.specs.ScanOrder.{Position, at, position_at, block_number}
@@ -84,7 +84,7 @@ behind_sub_block b s e flag greater1_flags =
     let S = sub_block_at b s in
     record {
       coded_sub_block_flag = λ x y.
-      cond (nat_eq x S.x && nat_eq y S.y) flag (e.coded_sub_block_flag x y);
+          cond (nat_eq x S.x && nat_eq y S.y) flag (e.coded_sub_block_flag x y);
       had_greater1 = had_greater1_after e.had_greater1 greater1_flags;
     }
 

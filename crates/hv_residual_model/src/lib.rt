@@ -5,4 +5,6 @@
 
 mod residual_laws;
 
-pub use residual_laws::{levels_are_read_back, read_levels_have_16_bits, unit_scripts_read_in_slices};
+pub use residual_laws::{
+    levels_are_read_back, read_levels_have_16_bits, unit_scripts_read_in_slices,
+};

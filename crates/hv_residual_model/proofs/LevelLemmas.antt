@@ -1,5 +1,5 @@
--- What is written of the levels of a sub-block is what is read (7.3.8.11): significance, greater1 and
--- greater2 flags, signs, and what remains.
+-- What is written of the levels of a sub-block is what is read (7.3.8.11): significance, greater1
+-- and greater2 flags, signs, and what remains.
 use Rattle.std.proofs.Common.{◌≡◌, ℕ, zero, suc, ◌+◌, ◌-◌, ◌<◌, ◌≤◌, Bool, true, false, cond, not, List, [], ◌∷◌, map, length, replicate, ℤ, pos, negsuc, refl, sym, ap, ◌∙◌, subst, arith, ltb-true, ltb-false, le-ltb, true≢false}
 use Rattle.std.specs.Prelude.{nat_lt, ◌&&◌, ◌||◌}
 use Rattle.std.specs.List.{list_all}
@@ -125,7 +125,8 @@ reads_level_by b bs m ms s ss l ls k h g ih true e =
     Done (with_sign s m ∷ levels)))
     (all_remaining_bins bs ms (next_cRiceParam k m)) (l ∷ ls) =
     where_true (has_16_bits (with_sign s m)) test
-    (reads_value (reads_map (λ (levels : List ℤ). with_sign s m ∷ levels) (ih (next_cRiceParam k m)))
+    (reads_value
+    (reads_map (λ (levels : List ℤ). with_sign s m ∷ levels) (ih (next_cRiceParam k m)))
     (ap (λ (x : ℤ). x ∷ ls) g.0)) in
     let here : Reads
     (only_if (has_16_bits (with_sign s (b.baseLevel + (m - b.baseLevel))))

@@ -6,4 +6,5 @@ pub mod LastPositionLemmas
 pub mod SubBlockLemmas
 pub mod ResidualLemmas
 pub mod RangeLemmas
+pub mod ContextLemmas
 mod WorkedResiduals

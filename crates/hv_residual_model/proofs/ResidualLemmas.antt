@@ -61,7 +61,8 @@ none_or_last_by b levels m (inr last) false e =
       below = let h = last.below in omega (arith, h);
       there = last.there;
       rest = λ n a c.
-          below_more Holds m (λ k less more. last.rest k more less) (λ more. e) n (omega (arith, c)) a;
+          below_more Holds m (λ k less more. last.rest k more less) (λ more. e) n (omega (arith, c))
+      a;
     }))
 
 none_or_last : (b : TransformBlock) (levels : List ℤ) (m : ℕ) →
@@ -132,7 +133,8 @@ rows_come_back b levels n side whole last =
     (λ e.
     let from = ltb-false k (length L) e in
     sym (zero_of (f k) (last.rest k (omega (arith, many, from)) less))) in
-    let own : (i : ℕ) → i < s * s → level_of_number L (number_at b i) ≡ slice_index_or levels i (pos 0) =
+    let own : (i : ℕ) → i < s * s →
+        level_of_number L (number_at b i) ≡ slice_index_or levels i (pos 0) =
     λ i less.
     let place = is_at b levels i side less in
     numbered (number_at b i) place.below ∙ place.same in

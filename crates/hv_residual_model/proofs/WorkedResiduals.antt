@@ -171,7 +171,8 @@ sig_of_chroma_16 :
     (41 ∷ 40 ∷ 40 ∷ 39 ∷ 40 ∷ 40 ∷ 39 ∷ 39 ∷ 40 ∷ 39 ∷ 39 ∷ 39 ∷ 39 ∷ 39 ∷ 39 ∷ 39 ∷ [])
 sig_of_chroma_16 = refl
 
-sig_of_chroma_4 : sig_coeff_at (block Vertical 2 false) false false (at 0 0) (at 2 2) ≡ context Sig 35
+sig_of_chroma_4 :
+    sig_coeff_at (block Vertical 2 false) false false (at 0 0) (at 2 2) ≡ context Sig 35
 sig_of_chroma_4 = refl
 
 -- ---- blocks
@@ -244,7 +245,8 @@ sub_blocks_of_8 :
     (each Greater1 (9 ∷ []) true ++ (each Greater2 (2 ∷ []) true ++
     (bypass_of (false ∷ false ∷ []) ++
     (each CodedSub (1 ∷ []) false ++ (each CodedSub (1 ∷ []) true ++
-    (each Sig (12 ∷ 12 ∷ 12 ∷ 13 ∷ 12 ∷ 12 ∷ 14 ∷ 13 ∷ 12 ∷ 12 ∷ 14 ∷ 13 ∷ 12 ∷ 14 ∷ 13 ∷ []) false ++
+    (each Sig (12 ∷ 12 ∷ 12 ∷ 13 ∷ 12 ∷ 12 ∷ 14 ∷ 13 ∷ 12 ∷ 12 ∷ 14 ∷ 13 ∷ 12 ∷ 14 ∷ 13 ∷ [])
+    false ++
     (each Greater1 (13 ∷ []) false ++ (bypass_of (true ∷ []) ++
     (each Sig (9 ∷ 9 ∷ 9 ∷ 9 ∷ 9 ∷ 10 ∷ 9 ∷ 9 ∷ 10 ∷ 11 ∷ 9 ∷ 10 ∷ 11 ∷ 10 ∷ 11 ∷ []) false ++
     (each Sig (0 ∷ []) true ++ (each Greater1 (1 ∷ []) false ++
@@ -262,7 +264,8 @@ chroma_of_8 :
     (each Sig (36 ∷ 37 ∷ 37 ∷ 37 ∷ 37 ∷ 37 ∷ 38 ∷ []) false ++
     (each Greater1 (17 ∷ []) true ++ (each Greater2 (4 ∷ []) false ++ (bypass_of (true ∷ []) ++
     (each CodedSub (2 ∷ []) false ++
-    (each Sig (36 ∷ 36 ∷ 36 ∷ 37 ∷ 36 ∷ 36 ∷ 38 ∷ 37 ∷ 36 ∷ 36 ∷ 38 ∷ 37 ∷ 36 ∷ 38 ∷ 37 ∷ []) false ++
+    (each Sig (36 ∷ 36 ∷ 36 ∷ 37 ∷ 36 ∷ 36 ∷ 38 ∷ 37 ∷ 36 ∷ 36 ∷ 38 ∷ 37 ∷ 36 ∷ 38 ∷ 37 ∷ [])
+    false ++
     (each Sig (27 ∷ []) true ++ (each Greater1 (21 ∷ []) false ++
     bypass_of (false ∷ [])))))))))))))
 unfolding residual_bins level_at last_significant prefix_of tabulate last_bins truncated_unary_bins block_position scan_order bins_from levels_below downwards sig_coeff_bins level_bins greater1_bins remaining_bins exp_golomb_bins sub_blocks_bins positions
@@ -277,7 +280,8 @@ unfolding residual_bins level_at last_significant prefix_of tabulate last_bins t
 vertical_of_8 = refl
 
 horizontal_of_8 :
-    residual_bins (block Horizontal 3 true) (replicate 8 (pos 0) ++ (pos 1 ∷ replicate 55 (pos 0))) ≡
+    residual_bins (block Horizontal 3 true)
+    (replicate 8 (pos 0) ++ (pos 1 ∷ replicate 55 (pos 0))) ≡
     each LastX (3 ∷ []) false ++ (each LastY (3 ∷ []) true ++ (each LastY (3 ∷ []) false ++
     (each Sig (15 ∷ 16 ∷ 16 ∷ 0 ∷ []) false ++ (each Greater1 (1 ∷ []) false ++
     bypass_of (false ∷ [])))))

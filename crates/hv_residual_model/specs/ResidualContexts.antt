@@ -88,8 +88,8 @@ sig_coeff_at b right below S P =
 
 -- ---- coeff_abs_level_greater1_flag (9.3.4.2.6)
 
--- ctxSet, from the number of the sub-block, and whether a flag was 1 in the last sub-block before it
--- that had such flags
+-- ctxSet, from the number of the sub-block, and whether a flag was 1 in the last sub-block before
+-- it that had such flags
 abbrev pub ctxSet : TransformBlock → ℕ → Bool → ℕ
 ctxSet b s had_greater1 =
     cond (nat_eq s 0 || not b.is_luma) 0 2 + number had_greater1

@@ -1,9 +1,11 @@
 -- What is read of the bins of a transform block's levels is what was coded, and what is read has 16
 -- bits.
-use Rattle.std.specs.Prelude.{◌≡◌, ◌≤◌, ◌^◌, ◌*◌, true, List, length, map, ℤ}
+use Rattle.std.specs.Prelude.{◌≡◌, ◌≤◌, ◌^◌, ◌*◌, true, List, [], ◌∷◌, length, map, ℤ}
 use Rattle.std.specs.List.{list_all}
+use Rattle.hv_types.specs.declared.bins.SliceKind.{SliceKind}
+use Rattle.hv_tables.specs.ContextTables.{IsValid}
 use Rattle.hv_stream_model.specs.Scripts.{Reads}
-use Rattle.hv_residual_model.specs.UnitBins.{UnitBin, UnitScript, slice_bin, in_slice}
+use Rattle.hv_residual_model.specs.UnitBins.{UnitQuestion, ByContext, InBypass, UnitBin, UnitScript, slice_bin, in_slice}
 use Rattle.hv_residual_model.specs.ResidualContexts.{TransformBlock}
 use Rattle.hv_residual_model.specs.ResidualSyntax.{has_16_bits, residual_coding}
 use Rattle.hv_residual_model.specs.ResidualBins.{any_significant, residual_bins}
@@ -36,3 +38,19 @@ abbrev pub UnitScriptsReadInSlices : Type 0 → Type 0
 UnitScriptsReadInSlices A =
     (script : UnitScript A) (bins : List UnitBin) (value : A) →
     Reads script bins value → Reads (in_slice script) (map slice_bin bins) value
+
+-- ---- contexts
+
+-- every context of the list has a variable in slices of this kind
+abbrev pub IsAskedIn : SliceKind → UnitQuestion → Type 0
+IsAskedIn kind (ByContext context) = IsValid kind context
+IsAskedIn kind InBypass = Unit {0}
+
+abbrev pub AreAskedIn : SliceKind → List UnitBin → Type 0
+AreAskedIn kind [] = Unit {0}
+AreAskedIn kind (bin ∷ bins) = IsAskedIn kind bin.question × AreAskedIn kind bins
+
+abbrev pub LevelsAskForVariablesThatAreThere : Type 0
+LevelsAskForVariablesThatAreThere =
+    (kind : SliceKind) (b : TransformBlock) (levels : List ℤ) → HasSide b →
+    AreAskedIn kind (residual_bins b levels)

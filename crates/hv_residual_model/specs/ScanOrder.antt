@@ -53,13 +53,15 @@ is_between low high n = nat_le low n && nat_le n high
 
 -- by predModeIntra
 abbrev pub scan_of_mode : ℕ → Scan
-scan_of_mode mode = cond (is_between 6 14 mode) Vertical (cond (is_between 22 30 mode) Horizontal Diagonal)
+scan_of_mode mode =
+    cond (is_between 6 14 mode) Vertical (cond (is_between 22 30 mode) Horizontal Diagonal)
 
 -- scanIdx. In 4:2:0 the mode of chroma is that of luma here, and blocks of 8x8 depend on it in luma
 -- alone.
 abbrev pub scanIdx_of : Pred → ℕ → Bool → Scan
 scanIdx_of (Intra mode) log2TrafoSize is_luma =
-    cond (nat_eq log2TrafoSize 2 || (nat_eq log2TrafoSize 3 && is_luma)) (scan_of_mode mode) Diagonal
+    cond (nat_eq log2TrafoSize 2 || (nat_eq log2TrafoSize 3 && is_luma)) (scan_of_mode mode)
+    Diagonal
 scanIdx_of (Inter reference mv flag mvd) log2TrafoSize is_luma = Diagonal
 
 -- ---- positions and their numbers

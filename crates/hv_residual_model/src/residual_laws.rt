@@ -1,6 +1,6 @@
 //! What is read of a transform block's levels is what was coded.
 
-ghost use Rattle.hv_residual_model.specs.ResidualLaws.{LevelsAreReadBack, LevelsThatAreReadHave16Bits, UnitScriptsReadInSlices};
+ghost use Rattle.hv_residual_model.specs.ResidualLaws.{LevelsAreReadBack, LevelsAskForVariablesThatAreThere, LevelsThatAreReadHave16Bits, UnitScriptsReadInSlices};
 
 /// The script of residual_coding (7.3.8.11) reads the levels of a block of 4x4 to 32x32 from their
 /// bins, with each of the three scans, in luma and in chroma, where the levels have 16 bits and one
@@ -19,4 +19,10 @@ pub fn read_levels_have_16_bits()
 /// bins answer it as bins of a slice.
 pub fn unit_scripts_read_in_slices<A>()
     ensures { UnitScriptsReadInSlices A }
+{}
+
+/// Every context of the bins of a block of 4x4 to 32x32 has a variable in slices of each kind
+/// (9.3.4.2): an index beyond its table would name a variable of the next.
+pub fn levels_ask_for_variables_that_are_there()
+    ensures { LevelsAskForVariablesThatAreThere }
 {}

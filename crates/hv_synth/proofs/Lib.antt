@@ -1,0 +1,4 @@
+pub mod GeneratorLemmas
+pub mod PatternLemmas
+pub mod RunLemmas
+mod WorkedGenerator

@@ -1,0 +1,27 @@
+use Rattle.std.proofs.Common.{ℕ, ◌≡◌, ◌+◌, ◌*◌, ◌/◌, ◌%◌, ◌<◌, ◌≤◌, List, length, ◌∙◌, ap, sym, drop, take, arith}
+use Rattle.std.proofs.lemmas.List.{length-take-le}
+use Rattle.hv_types.specs.Configuration.{IsValid, picture_bytes}
+use Rattle.hv_synth.specs.Generator.{luma}
+use Rattle.hv_synth.specs.Runs.{IsRun, byte_of, Generates}
+use Rattle.hv_synth.proofs.GeneratorLemmas.{luma_run}
+use Rattle.hv_synth.proofs.RunLemmas.{IsPlace, place_is, run_in_front}
+use Rattle.hv_synth.proofs.runs.fill_from_luma.Goals as goal
+
+pub returns-clause-run : goal.returns-clause-run
+returns-clause-run c =
+    let s = c.args.settings.now in
+    let start = c.start_at-start.result in
+    let size : ℕ = picture_bytes s in
+    let n : ℕ = c.min-n.result in
+    let long : length c.fill_luma.new.into ≡ n = c.fill_luma.auto.into ∙ length-take-le n c.args.into.now (omega arith) in
+    let is : IsPlace (s.width) (s.height) c.args.place start.column start.row = place_is (s.width) (s.height) c.args.place
+    start.column start.row (omega arith) c.requires.place c.start_at-start.ensures.column
+    c.start_at-start.ensures.row in
+    let at : c.args.picture * size + c.args.place ≡ start.picture * size + (start.row * s.width + start.column) =
+    ap (λ t. t * size + c.args.place) (sym c.start_at-start.ensures.picture)
+    ∙ ap (λ o. start.picture * size + o) (omega (arith, is.at)) in
+    run_in_front n (λ k. luma c.args.spec.seed start.picture (start.column + k) start.row)
+    (λ k. byte_of s (c.args.picture * size + c.args.place + k)) c.fill_luma.new.into
+    (drop n c.args.into.now) long c.fill_luma.ensures
+    (λ k below. luma_run s c.args.spec start.picture start.column start.row n
+    (c.args.picture * size + c.args.place) k c.requires.generates (omega arith) (omega arith) is.down at below)

@@ -1,12 +1,11 @@
 -- The bytes of generated video: how many they are, and which sample stands where.
-use Rattle.std.proofs.Common.{◌≡◌, ℕ, zero, suc, ◌+◌, ◌-◌, ◌*◌, ◌/◌, ◌<◌, ◌≤◌, List, [], ◌∷◌, ◌++◌, Some, None, length, get_or, Option, refl, sym, ◌∙◌, ap, subst, arith, append-nil, length-append}
+use Rattle.std.proofs.Common.{◌≡◌, ℕ, zero, suc, ◌+◌, ◌-◌, ◌*◌, ◌/◌, ◌<◌, ◌≤◌, [], ◌++◌, Some, None, length, get_or, Option, refl, sym, ◌∙◌, ap, subst, arith, append-nil, length-append}
 use Rattle.std.specs.Prelude.{All}
 use Rattle.std.specs.List.{flat_map}
 use Rattle.std.proofs.lemmas.List.{get_or_append_left, get_or-append_right}
-use Rattle.std.proofs.lemmas.Nat.{mul-add-lt, mod_below}
+use Rattle.std.proofs.lemmas.Nat.{mul-add-lt}
 use Rattle.hv_lemmas.specs.Lists.{tabulate}
 use Rattle.hv_lemmas.proofs.ListLemmas.{length-tabulate, get_or-tabulate}
-use Rattle.hv_types.specs.Samples.{HasByteSamples, plane_of}
 use Rattle.hv_types.specs.Configuration.{IsValid, picture_bytes_of, picture_bytes, pictures_asked}
 use Rattle.hv_types.specs.Video.{IsPicture, HasBytes, raw, pictures, rest}
 use Rattle.hv_types.specs.VideoLaws.{ReadAs}

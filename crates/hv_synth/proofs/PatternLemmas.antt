@@ -1,5 +1,5 @@
 -- The steps of the pattern are few enough for a sum of 32 bits.
-use Rattle.std.proofs.Common.{ℕ, ◌/◌, ◌<◌, ◌^◌, arith}
+use Rattle.std.proofs.Common.{ℕ, ◌/◌, ◌<◌, arith}
 use Rattle.std.specs.Int.Bits.{bit_xor}
 use Rattle.std.proofs.lemmas.Nat.{xor_lt}
 

@@ -1,5 +1,5 @@
 -- Runs of bytes: where they stand in a picture and in the video, and what a read gives.
-use Rattle.std.proofs.Common.{◌≡◌, ℕ, ◌+◌, ◌-◌, ◌*◌, ◌/◌, ◌%◌, ◌<◌, ◌≤◌, List, [], ◌++◌, Option, Some, None, length, take, drop, get_or, refl, sym, ◌∙◌, ap, ap₂, subst, arith, length-append, mul_comm}
+use Rattle.std.proofs.Common.{◌≡◌, ℕ, ◌+◌, ◌-◌, ◌*◌, ◌/◌, ◌%◌, ◌<◌, ◌≤◌, List, ◌++◌, Some, length, take, drop, get_or, sym, ◌∙◌, ap, ap₂, subst, arith, length-append, mul_comm}
 use Rattle.std.proofs.lemmas.List.{get_or_append_left, get_or-take, get_or-drop, length-drop, length-take-le, drop-drop, drop_all, take_at}
 use Rattle.std.proofs.lemmas.Option.{same_Some}
 use Rattle.std.proofs.lemmas.Nat.{div_below, mod_below, div-add-mod'}

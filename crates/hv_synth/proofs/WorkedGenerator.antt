@@ -1,9 +1,8 @@
 -- Samples and small pictures worked out by hand, against which the generator is compared.
-use Rattle.std.proofs.Common.{◌≡◌, ℕ, ◌+◌, ◌*◌, List, [], ◌∷◌, Some, None, refl}
+use Rattle.std.proofs.Common.{◌≡◌, [], ◌∷◌, Some, None, refl}
 use Rattle.std.specs.List.{flat_map}
 use Rattle.hv_lemmas.specs.Lists.{tabulate}
 use Rattle.hv_types.specs.Video.{raw}
-use Rattle.hv_types.specs.declared.settings.SynthSpec.{SynthSpec}
 use Rattle.hv_synth.specs.Generator.{luma, cb, cr, generated_pictures}
 
 -- a is 12 and b is 7: 60 + 21 + 1

@@ -1,5 +1,5 @@
 -- Runs of bytes: parts of rows of planes, one behind the other.
-use Rattle.std.specs.Prelude.{◌≡◌, ℕ, ◌+◌, ◌*◌, ◌<◌, List, Some, length, slice_index}
+use Rattle.std.specs.Prelude.{◌≡◌, ℕ, ◌<◌, List, Some, slice_index}
 use Rattle.std.specs.List.{flat_map}
 use Rattle.hv_types.specs.Configuration.{IsValid}
 use Rattle.hv_types.specs.Video.{raw}

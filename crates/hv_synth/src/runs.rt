@@ -63,7 +63,7 @@ fn fill_from_cb(
     ensures most { result ≤ length into.new }
     ensures run { IsRun result
         (λ k. byte_of settings.now (picture * picture_bytes settings.now
-            + (settings.now.width * settings.now.height + place) + k)) into.new }
+        + (settings.now.width * settings.now.height + place) + k)) into.new }
 {
     let width = settings.width / 2;
     let start = start_at(picture, place, width);
@@ -88,8 +88,8 @@ fn fill_from_cr(
     ensures most { result ≤ length into.new }
     ensures run { IsRun result
         (λ k. byte_of settings.now (picture * picture_bytes settings.now
-            + (settings.now.width * settings.now.height
-                + settings.now.width / 2 * (settings.now.height / 2) + place) + k)) into.new }
+        + (settings.now.width * settings.now.height
+        + settings.now.width / 2 * (settings.now.height / 2) + place) + k)) into.new }
 {
     let width = settings.width / 2;
     let start = start_at(picture, place, width);

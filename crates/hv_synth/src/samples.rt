@@ -22,9 +22,9 @@ struct Slopes {
     column: u32,
     row: u32,
     step: u32,
-    ghost columns: { column < 8 },
-    ghost rows: { row < 5 },
-    ghost steps: { step < 8 },
+    ghost columns: { column < 16 },
+    ghost rows: { row < 16 },
+    ghost steps: { step < 16 },
 }
 
 impl Slopes {

@@ -13,6 +13,10 @@ use std::marker::Model;
 /// A source that makes its bytes while they are read: raw pictures in 4:2:0, a byte a sample, luma,
 /// then Cb, then Cr, without padding. It takes no memory, never fails and tells its bytes.
 /// Contracts see those still to come.
+///
+/// Pictures count from t = 0. With a = x + 2 * t and b = y + t, luma in column x of row y is
+/// a * (3 + seed % 5) + b * (2 + seed % 3) + (a / 8 ^ b / 8) * (1 + seed % 7), Cb there is
+/// x + y + t + seed, and Cr 2 * x + y + 3 * t, each modulo 256.
 #[derive(Debug, Drop)]
 pub struct Synth {
     config: Config,

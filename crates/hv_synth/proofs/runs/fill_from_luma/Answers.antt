@@ -1,8 +1,8 @@
-use Rattle.std.proofs.Common.{ℕ, ◌≡◌, ◌+◌, ◌*◌, ◌/◌, ◌%◌, ◌<◌, ◌≤◌, List, length, ◌∙◌, ap, sym, drop, take, arith}
+use Rattle.std.proofs.Common.{ℕ, ◌≡◌, ◌+◌, ◌*◌, length, ◌∙◌, ap, sym, drop, arith}
 use Rattle.std.proofs.lemmas.List.{length-take-le}
-use Rattle.hv_types.specs.Configuration.{IsValid, picture_bytes}
+use Rattle.hv_types.specs.Configuration.{picture_bytes}
 use Rattle.hv_synth.specs.Generator.{luma}
-use Rattle.hv_synth.specs.Runs.{IsRun, byte_of, Generates}
+use Rattle.hv_synth.specs.Runs.{byte_of}
 use Rattle.hv_synth.proofs.GeneratorLemmas.{luma_run}
 use Rattle.hv_synth.proofs.RunLemmas.{IsPlace, place_is, run_in_front}
 use Rattle.hv_synth.proofs.runs.fill_from_luma.Goals as goal

@@ -1,6 +1,6 @@
-use Rattle.std.proofs.Common.{ℕ, ◌≡◌, ◌+◌, ◌-◌, ◌*◌, ◌/◌, ◌%◌, ◌<◌, ◌≤◌, List, length, ◌∙◌, ap, sym, arith}
-use Rattle.hv_types.specs.Configuration.{IsValid, picture_bytes}
-use Rattle.hv_synth.specs.Runs.{IsRun, byte_of, Generates}
+use Rattle.std.proofs.Common.{◌+◌, ◌-◌, ◌*◌, ◌/◌, ◌%◌, ◌∙◌, ap, arith}
+use Rattle.hv_types.specs.Configuration.{picture_bytes}
+use Rattle.hv_synth.specs.Runs.{byte_of}
 use Rattle.hv_synth.proofs.RunLemmas.{place_in_video}
 use Rattle.hv_synth.proofs.runs.fill_run.Goals as goal
 

@@ -1,12 +1,10 @@
-use Rattle.std.proofs.Common.{◌≡◌, ◌<◌, Some, min, length, ℕ, ◌+◌, ◌-◌, ◌*◌, ◌≤◌, List, take, drop, ◌++◌, ap, sym, ◌∙◌, arith}
+use Rattle.std.proofs.Common.{◌≡◌, length, ℕ, ◌+◌, ◌-◌, List, drop, ap, sym, ◌∙◌, arith}
 use Rattle.std.specs.List.{flat_map}
 use Rattle.std.proofs.lemmas.List.{length-take-le, length-drop}
-use Rattle.hv_types.specs.Configuration.{picture_bytes}
-use Rattle.hv_types.specs.Outside.{Reads}
 use Rattle.hv_types.specs.Video.{raw}
 use Rattle.hv_synth.specs.Generator.{generated}
-use Rattle.hv_synth.specs.Runs.{IsRun, byte_of, Generates}
-use Rattle.hv_synth.proofs.RunLemmas.{IsTotal, total_is, reads_run}
+use Rattle.hv_synth.specs.Runs.{byte_of}
+use Rattle.hv_synth.proofs.RunLemmas.{total_is, reads_run}
 use Rattle.hv_synth.proofs.synth.SynthSource.read.Goals as goal
 
 pub overflow_sub-total : goal.overflow_sub-total

@@ -17,7 +17,9 @@ use Rattle.hv_types.proofs.ConfigurationLemmas.{picture_bytes-least}
 use Rattle.hv_types.proofs.VideoLemmas.{raw_counts_bytes, pictures_read_back}
 use Rattle.hv_synth.specs.Generator.{luma, cb, cr, generated_picture, generated_pictures, generated}
 use Rattle.hv_synth.specs.GeneratorLaws.{IsVideo, GeneratedIsVideo}
-use Rattle.hv_synth.specs.Runs.{byte_of, Generates}
+use Rattle.hv_synth.specs.declared.component.Component.{Component}
+use Rattle.hv_synth.specs.declared.component.Component.TheVariants.{Luma, Cb, Cr}
+use Rattle.hv_synth.specs.Runs.{IsPlace, side_of, sample_of, byte_of, Generates}
 
 pub is_picture : (w h seed t : ℕ) → 2 ≤ w → 2 ≤ h → IsPicture w h (generated_picture w h seed t)
 is_picture w h seed t wide high = record {
@@ -178,6 +180,21 @@ cr_run s spec t x y n i k it there across down at inside =
     (s.width * s.height + (s.width / 2 * (s.height / 2) + (y * (s.width / 2) + (x + k)))) (i + k) it
     there (omega arith) (omega arith)
     ∙ in_cr s.width s.height spec.seed t (x + k) y (omega arith) down
+
+-- in any of them
+pub samples_run : (s : Settings) (spec : SynthSpec) (component : Component) (t x y place n k : ℕ) →
+    Generates s spec → t < spec.pictures → IsPlace s place component x y →
+    x + n ≤ side_of component s.width → k < n → byte_of s
+    (t * picture_bytes s + place + k) ≡ sample_of component spec.seed t (x + k) y
+samples_run s spec Luma t x y place n k it there is across inside =
+    luma_run s spec t x y n (t * picture_bytes s + place) k it there across is.down
+    (omega (arith, is.at)) inside
+samples_run s spec Cb t x y place n k it there is across inside =
+    cb_run s spec t x y n (t * picture_bytes s + place) k it there across is.down
+    (omega (arith, is.at)) inside
+samples_run s spec Cr t x y place n k it there is across inside =
+    cr_run s spec t x y n (t * picture_bytes s + place) k it there across is.down
+    (omega (arith, is.at)) inside
 
 made_is_video : (s : Settings) (spec : SynthSpec) → IsValid s → s.synth ≡ Some spec → IsVideo s
 made_is_video s spec valid named =

@@ -2,7 +2,7 @@
 use Rattle.std.proofs.Common.{◌≡◌, ℕ, ◌+◌, ◌-◌, ◌*◌, ◌/◌, ◌%◌, ◌<◌, ◌≤◌, List, ◌++◌, Some, length, take, drop, get_or, sym, ◌∙◌, ap, ap₂, subst, arith, length-append, mul_comm}
 use Rattle.std.proofs.lemmas.List.{get_or_append_left, get_or-take, get_or-drop, length-drop, length-take-le, drop-drop, drop_all, take_at}
 use Rattle.std.proofs.lemmas.Option.{same_Some}
-use Rattle.std.proofs.lemmas.Nat.{div_below, mod_below, div-add-mod'}
+use Rattle.std.proofs.lemmas.Nat.{div_below, div-add-mod'}
 use Rattle.std.proofs.lemmas.Grind.{same_number_lists}
 use Rattle.std.specs.List.{flat_map}
 use Rattle.hv_types.specs.Configuration.{IsValid, picture_bytes}
@@ -13,20 +13,6 @@ use Rattle.hv_types.specs.Outside.{Fills, Reads}
 use Rattle.hv_synth.specs.Generator.{generated}
 use Rattle.hv_synth.specs.Runs.{IsRun, Generates}
 use Rattle.hv_synth.proofs.GeneratorLemmas.{length-generated}
-
--- where a place in a plane is: its column and its row
-pub record IsPlace (w h place x y : ℕ) : Type 0 where
-  pub across : x < w
-  pub down : y < h
-  pub at : place ≡ y * w + x
-
-pub place_is : (w h place x y : ℕ) → 0 < w → place < w * h → x ≡ place % w → y ≡ place / w → IsPlace
-    w h place x y
-place_is w h place x y wide inside column row = record {
-  across = omega (arith, mod_below place w wide);
-  down = omega (arith, div_below place w h wide (omega (arith, mul_comm w h)));
-  at = sym (div-add-mod' place w) ∙ ap₂ (λ a b. a * w + b) (sym row) (sym column);
-}
 
 -- a run at the front of a list, in other words
 pub run_in_front : (n : ℕ) (f g : ℕ → ℕ) (new more : List ℕ) → length new ≡ n → IsRun (length new) f
@@ -39,6 +25,11 @@ pub place_in_video : (at size bytes place : ℕ) → size ≡ bytes → place �
     at / size * bytes + place ≡ at
 place_in_video at size bytes place same is =
     ap₂ (λ n p. at / size * n + p) (sym same) is ∙ div-add-mod' at size
+
+pub picture_in_video : (at size bytes pictures : ℕ) → size ≡ bytes → 0 < bytes →
+    at < pictures * bytes → at / size < pictures
+picture_in_video at size bytes pictures same some there =
+    subst (λ n. at / n < pictures) (sym same) (div_below at bytes pictures some there)
 
 -- the first n bytes from a place on
 pub fills_run : (all bytes new more : List ℕ) (at n : ℕ) → bytes ≡ drop at all →

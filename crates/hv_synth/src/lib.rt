@@ -2,9 +2,11 @@
 //! here takes memory.
 #![tactic(auto)]
 
+mod component;
 mod laws;
 mod runs;
 mod samples;
+mod spot;
 mod synth;
 #[cfg(test)]
 mod tests;

@@ -1,20 +1,12 @@
-//! Samples of a run: a part of a row of a plane, from its first column on.
+//! Samples of a run: a part of a row of a plane, from a spot on.
 
 ghost use Rattle.std.specs.Prelude.{ℕ, ◌≡◌, ◌+◌, ◌*◌, ◌/◌, ◌%◌, ◌<◌, ◌≤◌, length};
 ghost use Rattle.std.specs.Int.Bits.{bit_xor};
 ghost use Rattle.hv_synth.specs.Generator.{pattern, luma, cb, cr};
-ghost use Rattle.hv_synth.specs.Runs.{IsRun};
+ghost use Rattle.hv_synth.specs.Runs.{IsRun, sample_of};
 
-/// The first sample of a run, in a plane of a picture.
-#[derive(Clone, Copy)]
-pub(crate) struct Start {
-    pub(crate) picture: u32,
-    pub(crate) column: u32,
-    pub(crate) row: u32,
-    ghost early: { picture < 400000 },
-    ghost left: { column < 4096 },
-    ghost high: { row < 2176 },
-}
+use crate::component::Component;
+use crate::spot::Spot;
 
 /// How much luma rises from a column to the next, from a row to the next, and with the steps.
 #[derive(Clone, Copy)]
@@ -54,40 +46,54 @@ impl Slopes {
     }
 }
 
-/// Fills a run of luma.
-pub(crate) fn fill_luma(seed: u32, start: Start, into: &mut [u8])
-    requires { start.column + length into.old ≤ 4096 }
-    ensures { IsRun (length into.new)
-        (λ k. luma seed start.picture (start.column + k) start.row) into.new }
+/// Fills a run of luma of a picture.
+fn fill_luma(seed: u32, picture: u32, spot: Spot, into: &mut [u8])
+    requires early { picture < 400000 }
+    requires inside { spot.column + length into.old ≤ 4096 }
+    ensures { IsRun (length into.new) (λ k. luma seed picture (spot.column + k) spot.row) into.new }
 {
     let slopes = Slopes::new(seed);
-    let a = start.column + 2 * start.picture;
-    let b = start.row + start.picture;
+    let a = spot.column + 2 * picture;
+    let b = spot.row + picture;
     for k in 0..into.len() {
         into[k] = slopes.pattern(a + k as u32, b);
     }
 }
 
-/// Fills a run of Cb.
-pub(crate) fn fill_cb(seed: u32, start: Start, into: &mut [u8])
-    requires { start.column + length into.old ≤ 4096 }
-    ensures { IsRun (length into.new)
-        (λ k. cb seed start.picture (start.column + k) start.row) into.new }
+/// Fills a run of Cb of a picture.
+fn fill_cb(seed: u32, picture: u32, spot: Spot, into: &mut [u8])
+    requires early { picture < 400000 }
+    requires inside { spot.column + length into.old ≤ 4096 }
+    ensures { IsRun (length into.new) (λ k. cb seed picture (spot.column + k) spot.row) into.new }
 {
-    let first = start.column + start.row + start.picture + seed % 256;
+    let first = spot.column + spot.row + picture + seed % 256;
     for k in 0..into.len() {
         into[k] = ((first + k as u32) % 256) as u8;
     }
 }
 
-/// Fills a run of Cr.
-pub(crate) fn fill_cr(start: Start, into: &mut [u8])
-    requires { start.column + length into.old ≤ 4096 }
-    ensures { IsRun (length into.new)
-        (λ k. cr start.picture (start.column + k) start.row) into.new }
+/// Fills a run of Cr of a picture.
+fn fill_cr(picture: u32, spot: Spot, into: &mut [u8])
+    requires early { picture < 400000 }
+    requires inside { spot.column + length into.old ≤ 4096 }
+    ensures { IsRun (length into.new) (λ k. cr picture (spot.column + k) spot.row) into.new }
 {
-    let first = 2 * start.column + start.row + 3 * start.picture;
+    let first = 2 * spot.column + spot.row + 3 * picture;
     for k in 0..into.len() {
         into[k] = ((first + 2 * k as u32) % 256) as u8;
+    }
+}
+
+/// Fills a run of a picture.
+pub(crate) fn fill_samples(seed: u32, picture: u32, spot: Spot, into: &mut [u8])
+    requires early { picture < 400000 }
+    requires inside { spot.column + length into.old ≤ 4096 }
+    ensures { IsRun (length into.new)
+        (λ k. sample_of spot.component seed picture (spot.column + k) spot.row) into.new }
+{
+    match spot.component {
+        Component::Luma => fill_luma(seed, picture, spot, into),
+        Component::Cb => fill_cb(seed, picture, spot, into),
+        Component::Cr => fill_cr(picture, spot, into),
     }
 }

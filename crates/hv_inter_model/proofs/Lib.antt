@@ -1,0 +1,2 @@
+mod InterpolationLemmas
+mod WorkedInterpolation

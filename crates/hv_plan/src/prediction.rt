@@ -13,7 +13,9 @@ pub struct Mv {
 #[derive(Clone, Copy, Debug, PartialEq, Eq, Hash)]
 pub enum Pred {
     /// Inside the picture, with mode `IntraPredModeY`, 0 to 34 (8.4.2).
-    Intra { mode: u8 },
+    Intra {
+        mode: u8,
+    },
     /// From the picture of entry `reference` of list 0 (`ref_idx_l0`), 0 or 1. The vector `mv` is
     /// the candidate of this `flag` (`mvp_l0_flag`), 0 or 1, plus the difference `mvd`
     /// (`MvdL0`), modulo 2^16 (8.5.3.2.1).

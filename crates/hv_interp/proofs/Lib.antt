@@ -1,0 +1,5 @@
+mod InterpolationLemmas
+mod PlaceLemmas
+mod PredictionLemmas
+mod SumLemmas
+mod WindowLemmas

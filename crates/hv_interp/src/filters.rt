@@ -1,0 +1,156 @@
+//! The filters of interpolation over a window.
+ghost use Rattle.std.specs.Prelude.{◌≡◌, ◌+◌, ◌-◌, ◌*◌, ◌/◌, ◌%◌, ◌^◌, ◌<◌, ◌≤◌, length, pos, slice_index_or, ◌+ℤ◌, ◌*ℤ◌};
+ghost use Rattle.std.specs.Int.{int_shr};
+ghost use Rattle.std.specs.Int.RustNames.{unsigned_abs};
+ghost use Rattle.hv_inter_model.specs.Interpolation.{weighted_sample};
+ghost use Rattle.hv_interp.specs.Filters.{HasFirst, HoldsTaps, filtered, place_of, strided_sum, strided_total, weight_of};
+
+/// The product of a tap and a number.
+#[inline(always)]
+fn product(tap: i8, number: i16) -> i32
+    ensures value { result ≡ tap *ℤ number }
+    ensures most { unsigned_abs result ≤ 4194304 }
+{
+    i32::from(tap) * i32::from(number)
+}
+
+/// Adds the product of a tap and a number to a sum.
+#[inline(always)]
+fn add_product(sum: i32, tap: i8, number: i16) -> i32
+    requires { unsigned_abs sum ≤ 1073741824 }
+    ensures value { result ≡ sum +ℤ (tap *ℤ number) }
+    ensures most { unsigned_abs result ≤ unsigned_abs sum + 4194304 }
+{
+    sum + product(tap, number)
+}
+
+/// The sum of taps times samples, from place `at` on, each `step` behind the other.
+#[inline(always)]
+#[tactic(auto, using(crate::proofs::SumLemmas::strided_sum_of_none, crate::proofs::SumLemmas::strided_sum_of_more, crate::proofs::SumLemmas::strided_sum_of_all))]
+fn sum_of_samples<const T: usize>(taps: &[i8; T], samples: &[u8], at: usize, step: usize) -> i32
+    requires some { 0 < T }
+    requires most { T ≤ 8 }
+    requires at { at < 2 ^ 48 }
+    requires step { step < 2 ^ 48 }
+    requires inside { at + (T - 1) * step < length samples.now }
+    ensures value { result ≡ strided_sum taps.now samples.now at step }
+    ensures result_most { unsigned_abs result ≤ 33554432 }
+{
+    let mut sum = 0;
+    for k in 0..T {
+        sum = add_product(sum, taps[k], i16::from(samples[at + k * step]));
+    }
+    sum
+}
+
+/// The same of numbers with a sign.
+#[inline(always)]
+#[tactic(auto, using(crate::proofs::SumLemmas::strided_total_of_none, crate::proofs::SumLemmas::strided_total_of_more, crate::proofs::SumLemmas::strided_total_of_all))]
+fn sum_of_numbers<const T: usize>(taps: &[i8; T], numbers: &[i16], at: usize, step: usize) -> i32
+    requires some { 0 < T }
+    requires most { T ≤ 8 }
+    requires at { at < 2 ^ 48 }
+    requires step { step < 2 ^ 48 }
+    requires inside { at + (T - 1) * step < length numbers.now }
+    ensures value { result ≡ strided_total taps.now numbers.now at step }
+    ensures result_most { unsigned_abs result ≤ 33554432 }
+{
+    let mut sum = 0;
+    for k in 0..T {
+        sum = add_product(sum, taps[k], numbers[at + k * step]);
+    }
+    sum
+}
+
+/// A sample of 14 bits, rounded to 8 (8.5.3.3.4.2).
+#[inline(always)]
+fn rounded(sum: i32) -> u8
+    requires { unsigned_abs sum ≤ 33554432 }
+    ensures { result ≡ weighted_sample sum }
+{
+    ((sum + 32) >> 6).clamp(0, 255) as u8
+}
+
+/// Filters a block of `size` columns and rows: along rows where the `step` is 1, and down columns
+/// where it is the stride.
+pub(crate) fn filter<const T: usize>(
+    taps: &[i8; T],
+    samples: &[u8],
+    stride: usize,
+    step: usize,
+    size: usize,
+    out: &mut [u8],
+)
+    requires some { 0 < T }
+    requires most { T ≤ 8 }
+    requires stride { stride < 2 ^ 32 }
+    requires step { step < 2 ^ 32 }
+    requires size { size ≤ 64 }
+    requires inside { HoldsTaps samples.now stride step T size size }
+    requires room { length out.old ≡ size * size }
+    ensures { HasFirst 0 (size * size) (filtered taps.now samples.now stride step size) out.new }
+{
+    for y in 0..size {
+        for x in 0..size {
+            out[y * size + x] = rounded(sum_of_samples(taps, samples, y * stride + x, step));
+        }
+    }
+}
+
+/// Sums along rows: so many of `size`, one behind the other.
+pub(crate) fn sum_rows<const T: usize>(
+    taps: &[i8; T],
+    samples: &[u8],
+    stride: usize,
+    size: usize,
+    rows: usize,
+    sums: &mut [i16],
+)
+    requires some { 0 < T }
+    requires most { T ≤ 8 }
+    requires light { weight_of taps.now ≤ 112 }
+    requires stride { stride < 2 ^ 32 }
+    requires size { size ≤ 64 }
+    requires rows { rows ≤ 71 }
+    requires inside { HoldsTaps samples.now stride 1 T size rows }
+    requires room { rows * size ≤ length sums.old }
+    ensures { HasFirst (pos 0) (rows * size)
+        (λ k. strided_sum taps.now samples.now (place_of size stride k) 1) sums.new }
+{
+    for y in 0..rows {
+        for x in 0..size {
+            sums[y * size + x] = sum_of_samples(taps, samples, y * stride + x, 1) as i16;
+        }
+    }
+}
+
+/// Filters sums of rows down their columns.
+pub(crate) fn filter_sums<const T: usize>(taps: &[i8; T], sums: &[i16], size: usize, out: &mut [u8])
+    requires some { 0 < T }
+    requires most { T ≤ 8 }
+    requires size { size ≤ 64 }
+    requires inside { (size + T - 1) * size ≤ length sums.now }
+    requires room { length out.old ≡ size * size }
+    ensures { HasFirst 0 (size * size)
+        (λ k. weighted_sample (int_shr (strided_total taps.now sums.now k size) 6)) out.new }
+{
+    for k in 0..out.len() {
+        out[k] = rounded(sum_of_numbers(taps, sums, k, size) >> 6);
+    }
+}
+
+/// Copies a block of `size` columns and rows.
+pub(crate) fn copy_block(samples: &[u8], stride: usize, size: usize, out: &mut [u8])
+    requires stride { stride < 2 ^ 32 }
+    requires size { size ≤ 64 }
+    requires inside { HoldsTaps samples.now stride 1 1 size size }
+    requires room { length out.old ≡ size * size }
+    ensures { HasFirst 0 (size * size)
+        (λ k. slice_index_or samples.now (place_of size stride k) 0) out.new }
+{
+    for y in 0..size {
+        for x in 0..size {
+            out[y * size + x] = samples[y * stride + x];
+        }
+    }
+}

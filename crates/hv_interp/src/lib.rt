@@ -1,0 +1,12 @@
+//! Inter prediction of a block of samples from a reference picture (8.5.3.3.3, 8.5.3.3.4.2).
+#![tactic(auto)]
+
+mod filters;
+mod interpolate;
+mod predict;
+mod taps;
+#[cfg(test)]
+mod tests;
+mod window;
+
+pub use predict::predict_inter;

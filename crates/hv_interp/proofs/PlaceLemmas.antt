@@ -1,7 +1,10 @@
 -- Places of a block of n columns, and what stands in them.
-use Rattle.std.proofs.Common.{◌≡◌, ℕ, ◌+◌, ◌*◌, ◌<◌, List, length, set, slice_index_or, ◌∙◌, ap₂, arith, below_more}
+use Rattle.std.proofs.Common.{sym, drop, length-drop, length-take, ◌-◌, ◌≤◌, ◌≡◌, ℕ, ◌+◌, ◌*◌, ◌<◌, List, length, set, slice_index_or, ◌∙◌, ap₂, arith, below_more, ◌++◌, take, ⊎_elim, ap}
+use Rattle.std.proofs.lemmas.Bool.{cases_lt}
+use Rattle.std.proofs.lemmas.Slice.{take-put_mid}
+use borrow.Rule.Slice.PartMut.{put_mid}
 use Rattle.std.proofs.lemmas.Nat.{mod-mul-add, div-mul-add, mul-add-lt}
-use Rattle.std.proofs.lemmas.List.{get_or-set_same, get_or-set_other}
+use Rattle.std.proofs.lemmas.List.{get_or-set_same, get_or-set_other, get_or-take, get_or-drop, get_or_append_left, get_or-append_right, length-take-le}
 use Rattle.hv_interp.specs.Filters.{HasFirst, place_of}
 
 -- column x of row y, in a window
@@ -21,3 +24,33 @@ HasFirst-set {A} d at next f list v inside before e one k below =
     (λ k below. get_or-set_other list at k v d (λ same. absurd (omega (arith, same, below))) ∙ before k below)
     (get_or-set_same list at v d inside ∙ e)
     k (omega (arith, below, one))
+
+-- elements written behind those that are right
+pub HasFirst-put : {A : Type 0} (d : A) (at count next : ℕ) (f : ℕ → A) (list part : List A) → at ≤ length list →
+    HasFirst d at f list → ((i : ℕ) → i < length part → slice_index_or part i d ≡ f (at + i)) →
+    next ≡ at + length part → HasFirst d next f (put_mid at count list part)
+HasFirst-put {A} d at count next f list part room before right end k below =
+    let front : length (take at list) ≡ at = length-take-le at list room in
+    let all : take next (put_mid at count list part) ≡ take at list ++ part =
+    take-put_mid at count list part next end room in
+    sym (get_or-take next (put_mid at count list part) k d below) ∙
+    ap (λ l. slice_index_or l k d) all ∙
+    ⊎_elim
+    (λ inside. get_or_append_left (take at list) part d k (omega (arith, front, inside)) ∙
+    get_or-take at list k d inside ∙ before k inside)
+    (λ beyond. get_or-append_right (take at list) part at k d front beyond ∙
+    right (k - at) (omega (arith, below, end, beyond)) ∙ ap f (omega (arith, beyond)))
+    (cases_lt k at)
+
+-- a row of a window
+abbrev pub row_part : List ℕ → ℕ → ℕ → List ℕ
+row_part samples at n = take (at + n - at) (drop at samples)
+
+pub length-row_part : (samples : List ℕ) (at n : ℕ) → at + n ≤ length samples → length (row_part samples at n) ≡ n
+length-row_part samples at n room = length-take (at + n - at) (drop at samples) ∙ omega (arith, length-drop at samples, room)
+
+pub row_copied : (samples : List ℕ) (stride n y i : ℕ) → i < n →
+    slice_index_or (row_part samples (y * stride) n) i 0 ≡ slice_index_or samples (place_of n stride (y * n + i)) 0
+row_copied samples stride n y i below =
+    get_or-take (y * stride + n - y * stride) (drop (y * stride) samples) i 0 (omega (arith, below)) ∙
+    get_or-drop (y * stride) samples i 0 ∙ ap (λ k. slice_index_or samples k 0) (sym (place_is n stride y i below))

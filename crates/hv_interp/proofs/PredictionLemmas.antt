@@ -1,10 +1,15 @@
 -- The interpolated samples of a window are those of inter prediction (8.5.3.3.3).
-use Rattle.std.proofs.Common.{◌≡◌, ℕ, zero, suc, ◌+◌, ◌-◌, ◌*◌, ◌/◌, ◌%◌, ◌^◌, ◌<◌, ◌≤◌, Bool, true, false, List, [], ◌∷◌, ℤ, pos, negsuc, ◌+ℤ◌, ◌-ℤ◌, ◌*ℤ◌, refl, sym, ◌∙◌, ap, ap₂, arith, length, nat_eq, cond}
-use Rattle.std.proofs.lemmas.Int.{ints}
+use Rattle.std.proofs.Common.{slice_index_or, drop, ◌≡◌, ℕ, zero, suc, ◌+◌, ◌-◌, ◌*◌, ◌/◌, ◌%◌, ◌^◌, ◌<◌, ◌≤◌, Bool, true, false, List, [], ◌∷◌, ℤ, pos, negsuc, ◌+ℤ◌, ◌-ℤ◌, ◌*ℤ◌, refl, sym, ◌∙◌, ap, ap₂, arith, length, nat_eq, cond}
+use Rattle.std.proofs.lemmas.Int.{ints, clamps}
+use Rattle.std.proofs.Math.Nat.{add-mul}
+use Rattle.std.proofs.lemmas.List.{get_or-drop}
+use Rattle.std.specs.Int.RustNames.{unsigned_abs}
+use Rattle.hv_lemmas.specs.Clipping.{clip3}
+use Rattle.hv_types.specs.Windows.{HoldsBlock}
 use Rattle.std.proofs.lemmas.Nat.{mod_below, div_below, div-mul-add, mod-mul-add}
 use Rattle.std.specs.Int.{int_shr}
 use Rattle.hv_lemmas.specs.Lists.{tabulate}
-use Rattle.hv_types.specs.Samples.{Plane}
+use Rattle.hv_types.specs.Samples.{Plane, sample_at}
 use Rattle.hv_types.proofs.SampleLemmas.{rows_are}
 use Rattle.hv_plan.specs.declared.prediction.Mv.{Mv}
 use Rattle.hv_inter_model.specs.Interpolation.{weighted, weighted_sample, reference_sample, predSampleLX, taps_of, taps_before, whole_part, fraction, inter_sample, inter_predicted}
@@ -153,3 +158,29 @@ block_from is_luma luma p mv x y n side right below across down X Y out e size w
     block_is is_luma p mv x y n out whole
     (λ k inside. has k (rw (size) inside) ∙ rw (ea, ed, er, eb, eX, eY, size) refl) ∙
     ap (λ b. inter_predicted b p mv x y n) (sym e)
+
+-- a coordinate that lies inside is the nearest to itself
+own_place : (x side i count : ℕ) → x + count ≤ side → i < count →
+    unsigned_abs (clip3 (pos 0) (pos (side - 1)) (pos x +ℤ pos i)) ≡ x + i
+own_place x side i count inside below = omega (arith, ints, clamps, inside, below)
+
+-- a block of a plane shows it
+pub plane_shows : (p : Plane) (X Y : ℤ) (columns rows stride : ℕ) (samples : List ℕ) →
+    X ≡ pos (unsigned_abs X) → Y ≡ pos (unsigned_abs Y) →
+    unsigned_abs X + columns ≤ p.width → unsigned_abs Y + rows ≤ p.height →
+    stride ≡ p.width → samples ≡ drop (unsigned_abs Y * p.width + unsigned_abs X) p.samples →
+    HoldsBlock samples stride columns rows → Shows p X Y columns rows samples stride
+plane_shows p X Y columns rows stride samples eX eY across down wide is whole = record {
+  whole = whole;
+  each = λ i j inside below.
+      let x : ℕ = unsigned_abs X in
+      let y : ℕ = unsigned_abs Y in
+      let column : unsigned_abs (clip3 (pos 0) (pos (p.width - 1)) (X +ℤ pos i)) ≡ x + i =
+      ap (λ v. unsigned_abs (clip3 (pos 0) (pos (p.width - 1)) (v +ℤ pos i))) eX ∙ own_place x p.width i columns across inside in
+      let row : unsigned_abs (clip3 (pos 0) (pos (p.height - 1)) (Y +ℤ pos j)) ≡ y + j =
+      ap (λ v. unsigned_abs (clip3 (pos 0) (pos (p.height - 1)) (v +ℤ pos j))) eY ∙ own_place y p.height j rows down below in
+      let place : (y * p.width + x) + (j * p.width + i) ≡ (y + j) * p.width + (x + i) = omega (arith, add-mul y j p.width) in
+      ap₂ (λ s w. sample_of s w i j) is wide ∙
+      ap pos (get_or-drop (y * p.width + x) p.samples (j * p.width + i) 0 ∙ ap (λ k. slice_index_or p.samples k 0) place) ∙
+      ap₂ (λ a b. pos (sample_at p a b)) (sym column) (sym row);
+}

@@ -149,8 +149,7 @@ pub(crate) fn copy_block(samples: &[u8], stride: usize, size: usize, out: &mut [
         (λ k. slice_index_or samples.now (place_of size stride k) 0) out.new }
 {
     for y in 0..size {
-        for x in 0..size {
-            out[y * size + x] = samples[y * stride + x];
-        }
+        let row = &mut out[y * size..y * size + size];
+        row.copy_from_slice(&samples[y * stride..y * stride + size]);
     }
 }

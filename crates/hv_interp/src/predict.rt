@@ -1,5 +1,5 @@
 //! Inter prediction of a block (8.5.3.3.3, 8.5.3.3.4.2).
-ghost use Rattle.std.specs.Prelude.{◌≡◌, ◌+◌, ◌-◌, ◌*◌, ◌/◌, ◌%◌, ◌^◌, ◌<◌, ◌≤◌, length, pos, ◌+ℤ◌, ◌-ℤ◌};
+ghost use Rattle.std.specs.Prelude.{Bool, true, ◌≡◌, ◌+◌, ◌-◌, ◌*◌, ◌/◌, ◌%◌, ◌^◌, ◌<◌, ◌≤◌, length, pos, ◌+ℤ◌, ◌-ℤ◌};
 ghost use Rattle.std.specs.Int.{int_shr, int_rem_euclid};
 ghost use Rattle.std.specs.Int.RustNames.{unsigned_abs};
 ghost use Rattle.hv_inter_model.specs.Interpolation.{inter_predicted};
@@ -34,8 +34,54 @@ fn start(place: u32, mv: i16, bits: u32, before: usize) -> i64
     i64::from(place) + i64::from(mv >> bits) - before as i64
 }
 
+/// Whether so many samples from a coordinate on lie inside a side.
+#[inline(always)]
+fn is_inside(coordinate: i64, count: usize, side: u32) -> bool
+    requires near { unsigned_abs coordinate ≤ 8589934592 }
+    requires most { count ≤ 71 }
+    ensures begins { result ≡ true → coordinate ≡ pos (unsigned_abs coordinate) }
+    ensures ends { result ≡ true → unsigned_abs coordinate + count ≤ side }
+{
+    0 <= coordinate && coordinate + count as i64 <= i64::from(side)
+}
+
+/// Predicts a block of `size` columns and rows by a copy of its window, which begins in column `x`
+/// of row `y` of the reference.
+#[inline(never)]
+fn predict_by_copy<const T: usize>(
+    reference: &Plane,
+    x: i64,
+    y: i64,
+    across: &[i8; T],
+    down: &[i8; T],
+    right: u8,
+    below: u8,
+    before: usize,
+    size: usize,
+    out: &mut [u8],
+)
+    requires before { 2 * before + 2 ≡ T }
+    requires most { T ≤ 8 }
+    requires light { weight_of across.now ≤ 112 }
+    requires x { unsigned_abs x ≤ 8589934592 }
+    requires y { unsigned_abs y ≤ 8589934592 }
+    requires size { size ≤ 64 }
+    requires room { length out.old ≡ size * size }
+    ensures { HasFirst 0 (size * size)
+        (predicted before right below across.now down.now (reference_from reference.now x y) size)
+        out.new }
+{
+    let side = size + T - 1;
+    let mut window = [0; 5112];
+    copy_window(reference, x, y, side, side, &mut window);
+    interpolate(
+        across, down, right, below, before, &window, STRIDE, size, out,
+    );
+}
+
 /// Predicts a block of `size` columns and rows, whose window begins in column `x` of row `y` of the
 /// reference.
+#[inline(always)]
 fn predict_from<const T: usize>(
     reference: &Plane,
     x: i64,
@@ -59,11 +105,18 @@ fn predict_from<const T: usize>(
         (predicted before right below across.now down.now (reference_from reference.now x y) size)
         out.new }
 {
-    let mut window = [0; 5112];
-    copy_window(reference, x, y, size + T - 1, size + T - 1, &mut window);
-    interpolate(
-        across, down, right, below, before, &window, STRIDE, size, out,
-    );
+    let side = size + T - 1;
+    if is_inside(x, side, reference.width()) && is_inside(y, side, reference.height()) {
+        let window = reference.window(x as u32, y as u32, side as u32, side as u32);
+        let (samples, stride) = (window.samples, window.stride);
+        interpolate(
+            across, down, right, below, before, samples, stride, size, out,
+        );
+    } else {
+        predict_by_copy(
+            reference, x, y, across, down, right, below, before, size, out,
+        );
+    }
 }
 
 /// The prediction of a block of `size` columns and rows of one component from a reference

@@ -1,0 +1,7 @@
+mod BinLemmas
+mod FlagLemmas
+mod GatheringLemmas
+mod PuttingLemmas
+mod RemainingLemmas
+mod ScanLemmas
+mod SignificanceLemmas

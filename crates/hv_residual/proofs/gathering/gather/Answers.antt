@@ -1,0 +1,23 @@
+use Rattle.std.proofs.Common.{◌≡◌, ◌∙◌, sym, rules}
+use Rattle.std.proofs.lemmas.List.{length-set}
+use mir.Syntax.{w16}
+use mir.Val.{to_z, of_z}
+use Rattle.hv_residual.specs.Blocks.{block_of, spot_of}
+use Rattle.hv_residual.proofs.GatheringLemmas.{gather_step, gathered, as_levels_below}
+use Rattle.hv_residual.proofs.gathering.gather.Goals as goal
+
+pub loop-k-preserved : goal.loop-k-preserved
+loop-k-preserved c =
+    let same : to_z w16 (of_z w16 c.level_in.result) ≡ c.level_in.result = search rules in
+    record {
+      room = length-set c.loop-k.all c.from.result _ ∙ c.loop-k.invariant.room;
+      levels = rw c.from.ensures
+          (gather_step (block_of c.args.block) c.args.levels.now c.args.s c.loop-k.k c.loop-k.all _
+          (spot_of c.sub_block-corner.result) c.loop-k-test.true c.loop-k.invariant.room
+          c.sub_block-corner.ensures.spot (same ∙ c.level_in.ensures) c.loop-k.invariant.levels);
+    }
+
+pub returns : goal.returns
+returns c =
+    gathered c.loop-k.all c.loop-k.k _ c.loop-k.invariant.room c.loop-k-test.false c.loop-k.auto.k-end c.loop-k.invariant.levels ∙
+    sym (as_levels_below (block_of c.args.block) c.args.levels.now c.args.s)

@@ -1,0 +1,4 @@
+pub mod Blocks
+pub mod Levels
+pub mod Putting
+pub mod Scans

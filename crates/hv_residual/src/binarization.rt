@@ -1,0 +1,78 @@
+//! Binarizations (9.3.3) of numbers that are put in bypass.
+
+ghost use Rattle.std.specs.Prelude.{◌≡◌, ◌^◌, ◌<◌, ◌≤◌};
+ghost use Rattle.hv_residual_model.specs.UnitBins.{PutsUnit};
+ghost use Rattle.hv_residual_model.specs.Binarization.{fixed_length_bins, truncated_unary_bins, exp_golomb_bins, bypass_at, remaining_bins};
+
+use hv_types::BinSink;
+
+/// A power of two.
+#[inline(always)]
+pub fn power(exponent: u8) -> u32
+    requires { exponent ≤ 31 }
+    ensures { result ≡ 2 ^ exponent }
+{
+    1 << exponent
+}
+
+/// Puts the lowest `length` binary digits of a number, the highest first.
+#[inline(always)]
+pub fn put_fixed_length<B: BinSink>(sink: &mut B, length: u8, value: u32)
+    requires { length ≤ 32 }
+    ensures { PutsUnit B.stands_for sink.old sink.new (fixed_length_bins length value) }
+{
+    let mut left = length;
+    while left > 0 {
+        left -= 1;
+        sink.bypass((value >> left) % 2 == 1);
+    }
+}
+
+/// Puts a number in Exp-Golomb of order `k` (9.3.3.5).
+fn put_exp_golomb<B: BinSink>(sink: &mut B, k: u8, value: u32)
+    requires order { k ≤ 8 }
+    requires most { value < 524288 }
+    ensures { PutsUnit B.stands_for sink.old sink.new (exp_golomb_bins 32 k value) }
+{
+    let mut order = k;
+    let mut rest = value;
+    while rest >= power(order) {
+        sink.bypass(true);
+        rest -= power(order);
+        order += 1;
+    }
+    sink.bypass(false);
+    put_fixed_length(sink, order, rest);
+}
+
+/// Puts the prefix of coeff_abs_level_remaining (9.3.3.11): as many ones, and a zero where there are
+/// fewer than four.
+#[inline(always)]
+fn put_prefix<B: BinSink>(sink: &mut B, prefix: u8)
+    requires { prefix ≤ 4 }
+    ensures { PutsUnit B.stands_for sink.old sink.new
+        (truncated_unary_bins bypass_at 4 0 prefix) }
+{
+    for i in 0..prefix {
+        sink.bypass(true);
+    }
+    if prefix < 4 {
+        sink.bypass(false);
+    }
+}
+
+/// Puts coeff_abs_level_remaining with cRiceParam `k` (9.3.3.11).
+pub fn put_remaining<B: BinSink>(sink: &mut B, k: u8, value: u32)
+    requires order { k ≤ 4 }
+    requires most { value < 524288 }
+    ensures { PutsUnit B.stands_for sink.old sink.new (remaining_bins k value) }
+{
+    let prefix = value / power(k);
+    if prefix < 4 {
+        put_prefix(sink, prefix as u8);
+        put_fixed_length(sink, k, value);
+    } else {
+        put_prefix(sink, 4);
+        put_exp_golomb(sink, k + 1, value - 4 * power(k));
+    }
+}

@@ -1,0 +1,102 @@
+//! The levels of a sub-block in the order in which they are coded, and the last one of a block that
+//! isn't 0 (7.3.8.11).
+
+ghost use Rattle.std.specs.Prelude.{◌≡◌, ◌+◌, ◌-◌, ◌*◌, ◌^◌, ◌<◌, ◌≤◌, length, pos, slice_index_or};
+ghost use Rattle.hv_residual_model.specs.ScanOrder.{position_at};
+ghost use Rattle.hv_residual_model.specs.ResidualBins.{levels_below, last_significant};
+ghost use Rattle.hv_residual.specs.Blocks.{block_of};
+ghost use Rattle.hv_residual.specs.Levels.{zeros_before};
+
+use crate::binarization::power;
+use crate::block::{Block, Spot};
+use crate::scans::{place_in, sub_block, sub_blocks};
+use crate::significance::is_significant;
+
+/// The side of a block.
+#[inline(always)]
+fn side(block: Block) -> usize
+    ensures value { result ≡ 2 ^ block.log2 }
+    ensures most { result ≤ 32 }
+{
+    power(block.log2) as usize
+}
+
+/// The level at the position of this number in a sub-block.
+#[inline(always)]
+fn level_in(levels: &[i16], block: Block, corner: Spot, i: u8) -> i16
+    requires whole { length levels.now ≡ 2 ^ block.log2 * 2 ^ block.log2 }
+    requires column { corner.x < 2 ^ (block.log2 - 2) }
+    requires row { corner.y < 2 ^ (block.log2 - 2) }
+    requires number { i < 16 }
+    ensures { let P = position_at block.scan 2 i in result ≡ slice_index_or levels.now
+        ((4 * corner.y + P.y) * 2 ^ block.log2 + (4 * corner.x + P.x)) (pos 0) }
+{
+    let place = place_in(block.scan, 2, i);
+    let row = usize::from(4 * corner.y + place.y);
+    let column = usize::from(4 * corner.x + place.x);
+    levels[row * side(block) + column]
+}
+
+/// The levels of a sub-block, from position 15 down to position 0.
+#[inline(always)]
+pub fn gather(levels: &[i16], block: Block, s: u8) -> [i16; 16]
+    requires whole { length levels.now ≡ 2 ^ block.log2 * 2 ^ block.log2 }
+    requires number { s < 2 ^ (block.log2 - 2) * 2 ^ (block.log2 - 2) }
+    ensures { result ≡ levels_below (block_of block) levels.now s 16 }
+{
+    let corner = sub_block(block, s);
+    let mut all = [0i16; 16];
+    for k in 0..16u8 {
+        all[usize::from(k)] = level_in(levels, block, corner, 15 - k);
+    }
+    all
+}
+
+/// How many levels that are 0 stand before the first other.
+#[inline(always)]
+fn zeros_before(levels: &[i16]) -> usize
+    ensures value { result ≡ zeros_before levels.now }
+    ensures most { result ≤ length levels.now }
+{
+    let mut zeros = 0usize;
+    for level in levels {
+        if is_significant(*level) {
+            return zeros;
+        }
+        zeros += 1;
+    }
+    zeros
+}
+
+/// The last level of a block that isn't 0: the number of its sub-block, and of its position there.
+#[derive(Clone, Copy)]
+pub struct Last {
+    pub sub_block: u8,
+    pub position: u8,
+    pub ghost inside: { position < 16 },
+}
+
+/// The last level that isn't 0, in the order of the scan.
+#[inline(always)]
+pub fn find_last(levels: &[i16], block: Block) -> Last
+    requires { length levels.now ≡ 2 ^ block.log2 * 2 ^ block.log2 }
+    ensures value { last_significant (block_of block) levels.now ≡
+        16 * result.sub_block + result.position }
+    ensures inside { result.sub_block < 2 ^ (block.log2 - 2) * 2 ^ (block.log2 - 2) }
+{
+    let mut s = sub_blocks(block);
+    while s > 0 {
+        s -= 1;
+        let zeros = zeros_before(&gather(levels, block, s));
+        if zeros < 16 {
+            return Last {
+                sub_block: s,
+                position: 15 - zeros as u8,
+            };
+        }
+    }
+    Last {
+        sub_block: 0,
+        position: 0,
+    }
+}

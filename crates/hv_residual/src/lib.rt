@@ -1,0 +1,10 @@
+//! The levels of a transform block (7.3.8.11): put as bins into a sink, and their bins counted.
+#![tactic(auto)]
+
+mod binarization;
+mod block;
+mod flags;
+mod gathering;
+mod remaining;
+mod scans;
+mod significance;

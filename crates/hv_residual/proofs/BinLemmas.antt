@@ -36,6 +36,14 @@ closed q c i v h k l =
     let f : v - i ≡ 0 = omega arith in
     rw (e, f) refl
 
+-- the same by the number
+pub closed_at : (q : ℕ → UnitQuestion) (c i v : ℕ) → i ≤ v → v ≤ i → v < c →
+    truncated_unary_bins q (c - i) i (v - i) ≡ unit_bin (q v) false ∷ []
+closed_at q c i v h k l =
+    let e : v ≡ i = omega arith in
+    subst (λ (n : ℕ). truncated_unary_bins q (c - i) i (v - i) ≡ unit_bin (q n) false ∷ []) (sym e)
+    (closed q c i v h k l)
+
 pub full : (q : ℕ → UnitQuestion) (c i v : ℕ) → i ≤ v → v ≤ i → c ≤ v → v ≤ c →
     truncated_unary_bins q (c - i) i (v - i) ≡ []
 unfolding truncated_unary_bins

@@ -1,6 +1,8 @@
 mod BinLemmas
+mod ContextLemmas
 mod FlagLemmas
 mod GatheringLemmas
+mod LastLemmas
 mod PuttingLemmas
 mod RemainingLemmas
 mod ScanLemmas

@@ -1,9 +1,10 @@
 -- Laws of what is put: nothing, one part after another, and the rest of a whole.
-use Rattle.std.proofs.Common.{◌≡◌, ℕ, List, [], ◌∷◌, ◌++◌, map, refl, sym, ap, ◌∙◌, subst, append_assoc, append-nil}
+use Rattle.std.proofs.Common.{◌≡◌, ℕ, Bool, List, [], ◌∷◌, ◌++◌, map, refl, sym, ap, ◌∙◌, subst, append_assoc, append-nil}
 use Rattle.std.proofs.lemmas.List.{map-append}
+use Rattle.hv_types.specs.declared.bins.Ctx.{Ctx}
 use Rattle.hv_types.specs.declared.bins.SliceKind.{SliceKind}
 use Rattle.hv_types.specs.Bins.{Bin}
-use Rattle.hv_residual_model.specs.UnitBins.{UnitBin, PutsUnit, slice_bin}
+use Rattle.hv_residual_model.specs.UnitBins.{UnitQuestion, ByContext, unit_bin, UnitBin, PutsUnit, slice_bin}
 use Rattle.hv_residual.specs.Putting.{Going}
 
 abbrev pub Stands : Type 0 → Type 1
@@ -26,6 +27,14 @@ puts_both stands a b c xs ys f g kind qp before h =
 pub puts_same : {S : Type 0} (stands : Stands S) (a b : S) (xs ys : List UnitBin) →
     xs ≡ ys → PutsUnit stands a b xs → PutsUnit stands a b ys
 puts_same stands a b xs ys e p = subst (λ (zs : List UnitBin). PutsUnit stands a b zs) e p
+
+-- a bin whose context is known
+pub puts_bin : {S : Type 0} (stands : Stands S) (a b : S) (c : Ctx) (q : UnitQuestion) (v : Bool) →
+    ByContext c ≡ q → PutsUnit stands a b (unit_bin (ByContext c) v ∷ []) →
+    PutsUnit stands a b (unit_bin q v ∷ [])
+puts_bin stands a b c q v e p =
+    puts_same stands a b (unit_bin (ByContext c) v ∷ []) (unit_bin q v ∷ [])
+    (ap (λ (r : UnitQuestion). unit_bin r v ∷ []) e) p
 
 -- no bins, and the sink as it was
 pub puts_none : {S : Type 0} (stands : Stands S) (a : S) (xs : List UnitBin) →

@@ -1,10 +1,13 @@
 -- The levels of a sub-block that aren't 0, gathered one after another.
-use Rattle.std.proofs.Common.{◌≡◌, ◌≤◌, ◌<◌, ◌+◌, List, [], ◌∷◌, ◌++◌, ℕ, zero, suc, Bool, true, false, cond, ℤ, pos, arith, subst, sym, refl, ap, ◌∙◌, length, drop, take, set, get_or, append_assoc, append-nil, add-zero, drop_of_length-le}
+use Rattle.std.proofs.Common.{◌&&◌, not, nat_eq, length-drop, ◌≡◌, ◌≤◌, ◌<◌, ◌+◌, List, [], ◌∷◌, ◌++◌, ℕ, zero, suc, Bool, true, false, cond, ℤ, pos, arith, subst, sym, refl, ap, ◌∙◌, length, drop, take, set, get_or, append_assoc, append-nil, add-zero, drop_of_length-le}
 use Rattle.std.specs.Int.{is_negative}
 use Rattle.std.specs.Int.RustNames.{unsigned_abs}
 use Rattle.std.proofs.lemmas.List.{take-set, take_more_set}
 use mir.Val.{bool_byte}
-use Rattle.hv_residual_model.specs.ResidualBins.{is_significant, any_significant, magnitudes, signs, only_if_so}
+use Rattle.std.proofs.lemmas.Bool.Decides.{nat_tests}
+use Rattle.hv_residual_model.specs.UnitBins.{UnitQuestion, unit_bin}
+use Rattle.hv_residual_model.specs.ResidualBins.{is_significant, magnitudes, signs, only_if_so, sig_coeff_bins}
+use Rattle.hv_residual.specs.Levels.{one_sig_bins}
 use Rattle.hv_residual.proofs.FlagLemmas.{split_at}
 
 -- an entry more, or none
@@ -63,3 +66,48 @@ one_of false = refl
 pub one_most : (b : Bool) → cond b 1 0 ≤ 1
 one_most true = omega arith
 one_most false = omega arith
+
+-- ---- sig_coeff_flag
+more_than_none : (n : ℕ) → nat_eq (suc n) 0 ≡ false
+more_than_none n = grind (arith, nat_tests)
+
+first_coded : (q : ℕ → UnitQuestion) (level : ℤ) (levels : List ℤ) (sure : Bool) →
+    sig_coeff_bins q (level ∷ levels) sure ≡
+    one_sig_bins q (length levels) sure (is_significant level) ++
+    sig_coeff_bins q levels (sure && not (is_significant level))
+unfolding sig_coeff_bins one_sig_bins
+first_coded q level [] true = refl
+first_coded q level [] false = refl
+first_coded q level (next ∷ levels) true = rw (more_than_none (length levels)) refl
+first_coded q level (next ∷ levels) false = refl
+
+-- by the values that the code computed
+pub sig_step : (q : ℕ → UnitQuestion) (levels : List ℤ) (i left : ℕ) (sure flag next : Bool) →
+    i < length levels → left + (i + 1) ≡ length levels →
+    flag ≡ is_significant (get_or levels i (pos 0)) → next ≡ (sure && not flag) →
+    sig_coeff_bins q (drop i levels) sure ≡
+    one_sig_bins q left sure flag ++ sig_coeff_bins q (drop (i + 1) levels) next
+sig_step q levels i left sure flag next h el ef en =
+    let d : drop i levels ≡ get_or levels i (pos 0) ∷ drop (i + 1) levels = split_at levels i (pos 0) h in
+    let n : length (drop (i + 1) levels) ≡ left = length-drop (i + 1) levels ∙ omega (arith, el) in
+    let c = first_coded q (get_or levels i (pos 0)) (drop (i + 1) levels) sure in
+    rw (d, en, ef) (rw n at c)
+
+sig_none : (q : ℕ → UnitQuestion) (sure : Bool) → sig_coeff_bins q [] sure ≡ []
+unfolding sig_coeff_bins
+sig_none q sure = refl
+
+pub sig_end : (q : ℕ → UnitQuestion) (levels : List ℤ) (i : ℕ) (sure : Bool) → length levels ≤ i →
+    sig_coeff_bins q (drop i levels) sure ≡ []
+sig_end q levels i sure h =
+    let d : drop i levels ≡ [] = drop_of_length-le levels h in rw d (sig_none q sure)
+
+pub left_out_bins : (q : ℕ → UnitQuestion) (i : ℕ) (sure flag out : Bool) →
+    out ≡ (sure && nat_eq i 0) → out ≡ true → one_sig_bins q i sure flag ≡ []
+unfolding one_sig_bins
+left_out_bins q i sure flag out e t = let s : (sure && nat_eq i 0) ≡ true = sym e ∙ t in rw s refl
+
+pub coded_bins : (q : ℕ → UnitQuestion) (i : ℕ) (sure flag out : Bool) →
+    out ≡ (sure && nat_eq i 0) → out ≡ false → one_sig_bins q i sure flag ≡ unit_bin (q i) flag ∷ []
+unfolding one_sig_bins
+coded_bins q i sure flag out e t = let s : (sure && nat_eq i 0) ≡ false = sym e ∙ t in rw s refl

@@ -1,4 +1,6 @@
 pub mod Blocks
+pub mod ContextTables
+pub mod Earlier
 pub mod Levels
 pub mod Putting
 pub mod Scans

@@ -23,3 +23,10 @@ pub struct Spot {
     pub ghost column: { x < 8 },
     pub ghost row: { y < 8 },
 }
+
+/// A position in a block, by its column and its row.
+#[derive(Clone, Copy)]
+pub struct Corner {
+    pub x: u8,
+    pub y: u8,
+}

@@ -3,8 +3,12 @@
 
 mod binarization;
 mod block;
+mod coded;
+mod contexts;
 mod flags;
 mod gathering;
+mod last;
 mod remaining;
 mod scans;
 mod significance;
+mod sub_blocks;

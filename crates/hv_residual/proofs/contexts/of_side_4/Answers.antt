@@ -1,0 +1,25 @@
+use Rattle.std.proofs.Common.{◌≡◌, List, ℕ, map, ap, sym, true, false}
+use Rattle.hv_lemmas.specs.Lists.{tabulate}
+use Rattle.hv_plan.specs.declared.prediction.Scan.{Scan}
+use Rattle.hv_plan.specs.declared.prediction.Scan.TheVariants.{Diagonal, Horizontal, Vertical}
+use Rattle.hv_residual_model.specs.ScanOrder.{scan_order}
+use Rattle.hv_residual.specs.ContextTables.{of_map}
+use Rattle.hv_residual.proofs.contexts.of_side_4.Goals as goal
+
+pub returns-in-Diagonal-clause-value : goal.returns-in-Diagonal-clause-value
+unfolding scan_order tabulate
+returns-in-Diagonal-clause-value c =
+    let e : map of_map (scan_order Diagonal 2) ≡ map of_map (scan_order c.args.scan 2) =
+    ap (λ (s : Scan). map of_map (scan_order s 2)) (sym c.in-Diagonal.is) in e
+
+pub returns-in-Horizontal-clause-value : goal.returns-in-Horizontal-clause-value
+unfolding scan_order tabulate
+returns-in-Horizontal-clause-value c =
+    let e : map of_map (scan_order Horizontal 2) ≡ map of_map (scan_order c.args.scan 2) =
+    ap (λ (s : Scan). map of_map (scan_order s 2)) (sym c.in-Horizontal.is) in e
+
+pub returns-in-Vertical-clause-value : goal.returns-in-Vertical-clause-value
+unfolding scan_order tabulate
+returns-in-Vertical-clause-value c =
+    let e : map of_map (scan_order Vertical 2) ≡ map of_map (scan_order c.args.scan 2) =
+    ap (λ (s : Scan). map of_map (scan_order s 2)) (sym c.in-Vertical.is) in e

@@ -1,5 +1,6 @@
 mod BinLemmas
 mod ContextLemmas
+mod EarlierLemmas
 mod FlagLemmas
 mod GatheringLemmas
 mod LastLemmas

@@ -46,6 +46,7 @@ pub fn nonzero_levels(levels: &[i16]) -> Significant
     requires { length levels.now ≤ 16 }
     ensures magnitudes { take result.count result.magnitudes ≡ magnitudes levels.now }
     ensures signs { take result.count result.negative ≡ signs levels.now }
+    ensures count { result.count ≡ length (magnitudes levels.now) }
 {
     let mut all = [0u16; 16];
     let mut negative = [false; 16];

@@ -1,9 +1,9 @@
-use Rattle.std.proofs.Common.{◌≡◌, ◌∙◌, arith, get_or, pos, rules}
+use Rattle.std.proofs.Common.{◌≡◌, ◌∙◌, ap, sym, arith, get_or, pos, rules, List, ℕ, take, length}
 use Rattle.std.specs.Int.{is_negative}
 use Rattle.std.specs.Int.RustNames.{unsigned_abs}
-use Rattle.hv_residual_model.specs.ResidualBins.{is_significant}
-use Rattle.std.proofs.lemmas.List.{length-set}
-use Rattle.hv_residual.proofs.SignificanceLemmas.{magnitude_step, sign_step, one_of, one_most}
+use Rattle.hv_residual_model.specs.ResidualBins.{is_significant, magnitudes}
+use Rattle.std.proofs.lemmas.List.{length-set, length-take-le}
+use Rattle.hv_residual.proofs.SignificanceLemmas.{magnitude_step, sign_step, one_of, one_most, no_magnitude}
 use Rattle.hv_residual.proofs.significance.nonzero_levels.Goals as goal
 
 pub loop-level-preserved : goal.loop-level-preserved
@@ -26,3 +26,12 @@ loop-level-preserved c =
           (omega arith) one eb ev
           c.loop-level.invariant.signs;
     }
+
+pub returns-clause-count : goal.returns-clause-count
+returns-clause-count c =
+    let all : List ℕ = take c.loop-level.count c.loop-level.all in
+    let e : all ≡ magnitudes c.args.levels.now =
+    sym (no_magnitude c.args.levels.now c.loop-level.level-index all c.loop-level-test.false) ∙
+    c.loop-level.invariant.magnitudes in
+    let n = length-take-le c.loop-level.count c.loop-level.all (omega arith) in
+    sym n ∙ ap length e

@@ -1,5 +1,6 @@
 -- What follows a sub-block, from what the code keeps of those before, and what it keeps then.
-use Rattle.std.proofs.Common.{add-one, drop, ◌≡◌, ◌≤◌, ◌<◌, ℕ, zero, suc, ◌+◌, ◌-◌, ◌*◌, Bool, true, false, cond, nat_eq, nat_lt, ◌&&◌, List, [], ◌∷◌, ◌++◌, ℤ, length, replicate, get_or, refl, ap, sym, ◌∙◌, subst, arith, append_assoc}
+use Rattle.std.proofs.Common.{add-one, drop, take, ◌≡◌, ◌≤◌, ◌<◌, ℕ, zero, suc, ◌+◌, ◌-◌, ◌*◌, Bool, true, false, cond, nat_eq, nat_lt, ◌&&◌, List, [], ◌∷◌, ◌++◌, ℤ, length, replicate, get_or, refl, ap, sym, ◌∙◌, subst, arith, append_assoc}
+use Rattle.std.proofs.Math.Seq.{take-length}
 use Rattle.std.specs.Bool.{if◌then◌else◌}
 use Rattle.std.proofs.lemmas.Bool.Decides.{nat_tests}
 use Rattle.hv_residual_model.specs.UnitBins.{UnitBin}
@@ -95,7 +96,7 @@ sub_block_parts b s e these levels S right below some flag had eS er eb el ea ef
 abbrev pub behind_at : Position → Earlier → Bool → Bool → Earlier
 behind_at S e flag had = record {
   coded_sub_block_flag = λ x y.
-  cond (nat_eq x S.x && nat_eq y S.y) flag (e.coded_sub_block_flag x y);
+      cond (nat_eq x S.x && nat_eq y S.y) flag (e.coded_sub_block_flag x y);
   had_greater1 = had;
 }
 
@@ -179,3 +180,24 @@ pub last_parts : (b : TransformBlock) (levels : List ℤ) (s i set : ℕ) (lower
     last_sub_block_bins b s (levels_below b levels s (i + 1))
 unfolding levels_below downwards
 last_parts b levels s i set lower all S eS el ea es = rw (eS, el, ea, es, add-one) refl
+
+length-downwards : (f : ℕ → ℤ) (n : ℕ) → length (downwards n f) ≡ n
+unfolding downwards
+length-downwards f zero = refl
+length-downwards f (suc n) = ap suc (length-downwards f n)
+
+length-levels_below : (b : TransformBlock) (levels : List ℤ) (s n : ℕ) →
+    length (levels_below b levels s n) ≡ n
+unfolding levels_below
+length-levels_below b levels s n = length-downwards (λ i. level_at b levels (16 * s + i)) n
+
+-- the same as the code cuts them off
+pub cut_levels : (b : TransformBlock) (levels : List ℤ) (s n k : ℕ) (these : List ℤ) → n + k ≡ 16 →
+    these ≡ levels_below b levels s 16 → take (16 - k) (drop k these) ≡ levels_below b levels s n
+cut_levels b levels s n k these h e =
+    let ek : k ≡ 16 - n = omega arith in
+    let d : drop k these ≡ levels_below b levels s n =
+    rw ek (lower_levels b levels s n these (omega arith) e) in
+    let m : 16 - k ≡ length (levels_below b levels s n) =
+    sym (length-levels_below b levels s n ∙ omega arith) in
+    rw (d, m) (take-length (levels_below b levels s n))

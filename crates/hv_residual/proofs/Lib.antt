@@ -6,5 +6,6 @@ mod GatheringLemmas
 mod LastLemmas
 mod PuttingLemmas
 mod RemainingLemmas
+mod ResidualLemmas
 mod ScanLemmas
 mod SignificanceLemmas

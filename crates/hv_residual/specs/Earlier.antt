@@ -18,7 +18,7 @@ pub record Shows (c : Coded) (e : Earlier) : Type 0 where
 abbrev pub behind_spot : Spot → Earlier → Bool → Bool → Earlier
 behind_spot corner e flag had = record {
   coded_sub_block_flag = λ x y.
-  cond (nat_eq x corner.x && nat_eq y corner.y) flag (e.coded_sub_block_flag x y);
+      cond (nat_eq x corner.x && nat_eq y corner.y) flag (e.coded_sub_block_flag x y);
   had_greater1 = had;
 }
 

@@ -9,6 +9,11 @@ mod flags;
 mod gathering;
 mod last;
 mod remaining;
+mod residual;
 mod scans;
 mod significance;
 mod sub_blocks;
+
+pub use hv_plan::{Pred, Scan};
+pub use hv_types::BinSink;
+pub use residual::{put_residual, scan_of};

@@ -23,18 +23,33 @@ pub fn base_of(left: u8, first: bool, greater2: bool, flag: bool) -> Base
     ensures { base result.base_level result.has_remaining ≡ base_at left first greater2 flag }
 {
     if left == 0 {
-        return Base { base_level: 1, has_remaining: true };
+        return Base {
+            base_level: 1,
+            has_remaining: true,
+        };
     }
     if !flag {
-        return Base { base_level: 1, has_remaining: false };
+        return Base {
+            base_level: 1,
+            has_remaining: false,
+        };
     }
     if !first {
-        return Base { base_level: 2, has_remaining: true };
+        return Base {
+            base_level: 2,
+            has_remaining: true,
+        };
     }
     if greater2 {
-        return Base { base_level: 3, has_remaining: true };
+        return Base {
+            base_level: 3,
+            has_remaining: true,
+        };
     }
-    Base { base_level: 2, has_remaining: false }
+    Base {
+        base_level: 2,
+        has_remaining: false,
+    }
 }
 
 /// Whether no greater1 flag was 1 up to a level, from the same before it and its own flag.
@@ -85,7 +100,11 @@ fn put_above_base<B: BinSink>(sink: &mut B, rice: u8, magnitude: u16, base: Base
         (one_remaining_bins base.has_remaining rice (magnitude - base.base_level)) }
 {
     if base.has_remaining {
-        put_remaining(sink, rice, u32::from(magnitude.saturating_sub(base.base_level)));
+        put_remaining(
+            sink,
+            rice,
+            u32::from(magnitude.saturating_sub(base.base_level)),
+        );
     }
 }
 

@@ -125,13 +125,7 @@ fn flag_value(s: u8, any: bool) -> bool
 
 /// Puts a sub-block before the last one.
 #[inline(always)]
-fn put_sub_block<B: BinSink>(
-    sink: &mut B,
-    levels: &[i16],
-    block: Block,
-    s: u8,
-    coded: &mut Coded,
-)
+fn put_sub_block<B: BinSink>(sink: &mut B, levels: &[i16], block: Block, s: u8, coded: &mut Coded)
     requires whole { length levels.now ≡ 2 ^ block.log2 * 2 ^ block.log2 }
     requires number { s < 2 ^ (block.log2 - 2) * 2 ^ (block.log2 - 2) }
     ensures { (e : Earlier) → Shows coded.old e →

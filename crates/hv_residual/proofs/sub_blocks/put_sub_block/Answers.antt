@@ -22,8 +22,9 @@ returns g c = λ e sh.
     (c.flag-below.ensures e sh) el c.any_significant-any.ensures c.flag_value-flag.ensures sh.had in
     let behind = behind_is b c.args.s e these c.gather-these.result S c.flag_value-flag.result
     (coded_sub_block_value c.args.s these) c.args.coded.now.had_greater1 c.put_if_coded-now.result
-    c.sub_block-corner.ensures.spot v el sh.had c.put_if_coded-now.ensures.had in
-    (puts_same g.B.BinSink.stands_for _ _ _ _ parts
-    (puts_both g.B.BinSink.stands_for _ c.put_coded_flag.new.sink _ _ _ c.put_coded_flag.ensures
-    c.put_if_coded-now.ensures.puts),
-    subst (λ (x : Earlier). Shows c.set.new.self x) behind (c.set.ensures e sh))
+    c.sub_block-corner.ensures.spot v el sh.had c.put_if_coded-now.ensures.had in (
+      puts_same g.B.BinSink.stands_for _ _ _ _ parts
+          (puts_both g.B.BinSink.stands_for _ c.put_coded_flag.new.sink _ _ _ c.put_coded_flag.ensures
+          c.put_if_coded-now.ensures.puts),
+      subst (λ (x : Earlier). Shows c.set.new.self x) behind (c.set.ensures e sh),
+    )

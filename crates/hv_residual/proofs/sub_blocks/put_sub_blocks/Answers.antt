@@ -15,10 +15,13 @@ loop-s-preserved g c = record {
   few = omega (arith, c.loop-s.invariant.few);
   going = λ first sh.
       let before = c.loop-s.invariant.going first sh in
-      let step = c.put_sub_block.ensures before.0 before.1 in
-      (_, step.1, going_by g.B.BinSink.stands_for _ _ _ _ _ _ _ before.2
-      (next_sub_block (block_of c.args.block) c.args.levels.now c.loop-s.s before.0 c.loop-s-test.true)
-      step.0);
+      let step = c.put_sub_block.ensures before.0 before.1 in (
+        _,
+        step.1,
+        going_by g.B.BinSink.stands_for _ _ _ _ _ _ _ before.2
+            (next_sub_block (block_of c.args.block) c.args.levels.now c.loop-s.s before.0 c.loop-s-test.true)
+            step.0,
+      );
 }
 
 pub returns : goal.returns

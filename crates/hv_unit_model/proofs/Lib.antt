@@ -1,0 +1,5 @@
+mod WorkedModes
+mod WorkedOffsets
+mod WorkedPictures
+mod WorkedRefusals
+mod WorkedUnits

@@ -1,3 +1,11 @@
+pub mod ModeLemmas
+pub mod MotionLemmas
+pub mod NumberLemmas
+pub mod OffsetLemmas
+pub mod SignLemmas
+pub mod SquareLemmas
+pub mod TransformLemmas
+pub mod UnitLemmas
 mod WorkedModes
 mod WorkedOffsets
 mod WorkedPictures

@@ -10,6 +10,7 @@ use Rattle.hv_plan.specs.declared.offsets.SaoParam.{SaoParam}
 use Rattle.hv_residual_model.specs.ResidualSyntax.{has_16_bits}
 use Rattle.hv_unit_model.specs.Trees.{Motion, Prediction, Intra, Inter, TransformUnit, Tree, Leaf, Split, Outside, CodingTreeUnit, log2TrafoSize, transform_units, greatest_size}
 use Rattle.hv_unit_model.specs.Sites.{Site, squares, is_outside, must_split}
+use Rattle.hv_unit_model.specs.EarlierUnits.{Square, Unavailable, Coded, Look}
 
 -- ---- sample adaptive offsets (7.4.9.3)
 
@@ -111,6 +112,23 @@ AreTransformUnits log2 zero (t ∷ units) = ⊥
 AreTransformUnits log2 (suc count) [] = ⊥
 AreTransformUnits log2 (suc count) (t ∷ units) =
     IsTransformUnit log2 t × AreTransformUnits log2 count units
+
+-- ---- what is seen of earlier units
+
+abbrev pub HasMode : Square → Type 0
+HasMode Unavailable = Unit {0}
+HasMode (Coded CtDepth (Intra mode)) = mode < intra_modes
+HasMode (Coded CtDepth (Inter motion)) = Unit {0}
+
+abbrev pub HaveModes : List Square → Type 0
+HaveModes [] = Unit {0}
+HaveModes (square ∷ squares) = HasMode square × HaveModes squares
+
+-- where the units of the block have modes, all that is seen has
+abbrev pub SeesModes : Look → Type 0
+SeesModes look =
+    (earlier : List Square) → HaveModes earlier →
+    (column row : ℕ) → HasMode (look earlier column row)
 
 -- ---- coding quadtrees
 

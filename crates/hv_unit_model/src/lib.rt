@@ -2,3 +2,10 @@
 //! for every unit of this profile. They stand in `specs/`; the functions here are empty, and each
 //! carries a law of the definitions as its contract.
 #![tactic(auto)]
+
+mod unit_laws;
+
+pub use unit_laws::{
+    coding_tree_units_are_read, nodes_are_read_back, offsets_are_read_back, sites_are_there,
+    slice_data_is_read_back,
+};

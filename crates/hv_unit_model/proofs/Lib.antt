@@ -1,6 +1,6 @@
+pub mod FlagLemmas
 pub mod ModeLemmas
 pub mod MotionLemmas
-pub mod NumberLemmas
 pub mod OffsetLemmas
 pub mod SignLemmas
 pub mod SquareLemmas

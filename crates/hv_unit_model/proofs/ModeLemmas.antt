@@ -14,7 +14,7 @@ use Rattle.hv_unit_model.specs.MostProbableModes.{candModeList, is_candidate, mp
 use Rattle.hv_unit_model.specs.Validity.{intra_modes}
 use Rattle.hv_unit_model.specs.BlockSyntax.{luma_mode}
 use Rattle.hv_unit_model.specs.Bins.{bin, luma_mode_bins}
-use Rattle.hv_unit_model.proofs.NumberLemmas.{reads_fixed, reads_unary}
+use Rattle.hv_residual_model.proofs.BinarizationLemmas.{reads_small_number, reads_truncated_unary}
 
 -- a candidate has its own place in the list, and any other mode its own number of those that remain
 abbrev pub is_found : List ℕ → ℕ → Bool
@@ -53,7 +53,7 @@ reads_found list mode true e f =
     bin PrevIntra 0 true ∷ truncated_unary_bins bypass_at 2 0 (mpm_idx_of mode list) in
     rw e (subst (λ m. Reads (luma_mode list) these m) (eqb-true _ _ parts.1)
     (one (reads_map (λ mpm_idx. slice_index_or list mpm_idx 0)
-    (reads_unary bypass_at 2 0 (mpm_idx_of mode list) (leb-true _ _ parts.0)))))
+    (reads_truncated_unary bypass_at 2 0 (mpm_idx_of mode list) (leb-true _ _ parts.0)))))
 reads_found list mode false e f =
     let t = rw e at f in
     let parts = and_parts (nat_lt (remaining_of list mode) 32)
@@ -62,7 +62,7 @@ reads_found list mode false e f =
     bin PrevIntra 0 false ∷ fixed_length_bins 5 (remaining_of list mode) in
     rw e (subst (λ m. Reads (luma_mode list) these m) (eqb-true _ _ parts.1)
     (one (reads_map (λ remaining. mode_of_remaining list remaining)
-    (reads_fixed 5 (remaining_of list mode) (ltb-true _ _ parts.0)))))
+    (reads_small_number 5 (remaining_of list mode) (ltb-true _ _ parts.0)))))
 
 pub reads_luma_mode : (a b mode : ℕ) → a < intra_modes → b < intra_modes → mode < intra_modes →
     Reads (luma_mode (candModeList a b)) (luma_mode_bins (candModeList a b) mode) mode

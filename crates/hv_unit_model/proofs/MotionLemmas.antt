@@ -16,7 +16,8 @@ use Rattle.hv_unit_model.specs.Trees.{Motion}
 use Rattle.hv_unit_model.specs.Validity.{IsMotion}
 use Rattle.hv_unit_model.specs.BlockSyntax.{digit, abs_mvd_greater1_flag, mvd_magnitude, mvd_component, mvd_coding, prediction_unit}
 use Rattle.hv_unit_model.specs.Bins.{bin, where_coded, greater1_bins, rest_bins, mvd_bins, prediction_unit_bins}
-use Rattle.hv_unit_model.proofs.NumberLemmas.{reads_done, reads_golomb, reads_where}
+use Rattle.hv_residual_model.proofs.BinarizationLemmas.{reads_exp_golomb}
+use Rattle.hv_unit_model.proofs.FlagLemmas.{reads_done, reads_where}
 use Rattle.hv_unit_model.proofs.SignLemmas.{with_own_sign, small_magnitude, insignificant, significant_above_0}
 
 -- ---- a component of a difference
@@ -44,7 +45,7 @@ reads_magnitude magnitude true e least most =
     let above : 1 < magnitude = ltb-true 1 magnitude e in
     let whole : 2 + (magnitude - 2) ≡ magnitude = omega (arith, above) in
     subst (λ m. Reads (mvd_magnitude true) (exp_golomb_bins 32 1 (magnitude - 2)) m) whole
-    (reads_map (λ m. 2 + m) (reads_golomb 32 1 (magnitude - 2) (omega (arith, most))))
+    (reads_map (λ m. 2 + m) (reads_exp_golomb 32 1 (magnitude - 2) (omega (arith, most))))
 reads_magnitude magnitude false e least most =
     let not_above : magnitude ≤ 1 = ltb-false 1 magnitude e in
     let one_left : 1 ≡ magnitude = omega (arith, least, not_above) in

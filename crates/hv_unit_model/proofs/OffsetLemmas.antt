@@ -17,7 +17,7 @@ use Rattle.hv_unit_model.specs.Validity.{Range, is_in, are_in, either_way, raisi
 use Rattle.hv_unit_model.specs.BlockSyntax.{merge_flag, sao_type_idx, sao_type_at, sao_offset_abs, sao_offset_sign, edge_signs, with_signs, component, off_component, band_component, edge_component, component_of_type, component_like, sao}
 use Rattle.hv_unit_model.specs.Bins.{merge_bins, type_of, sao_type_bins, offsets_abs_bins, class_bins, component_bins, cr_bins, sao_bins}
 use Rattle.hv_unit_model.specs.UnitLaws.{OffsetsAreReadBack}
-use Rattle.hv_unit_model.proofs.NumberLemmas.{reads_fixed, reads_unary}
+use Rattle.hv_residual_model.proofs.BinarizationLemmas.{reads_small_number, reads_truncated_unary}
 
 -- ---- ranges
 
@@ -133,7 +133,7 @@ reads_magnitudes zero [] small = nothing
 reads_magnitudes zero (o ∷ offsets) small = absurd small
 reads_magnitudes (suc n) [] small = absurd small
 reads_magnitudes (suc n) (o ∷ offsets) small =
-    reads_then _ (reads_unary bypass_at 7 0 (unsigned_abs o) small.0)
+    reads_then _ (reads_truncated_unary bypass_at 7 0 (unsigned_abs o) small.0)
     (reads_map (λ magnitudes. unsigned_abs o ∷ magnitudes) (reads_magnitudes n offsets small.1))
 
 reads_signs : (offsets : List ℤ) →
@@ -161,7 +161,7 @@ reads_band : (position : ℕ) (offsets : List ℤ) → position < 32 →
 reads_band position offsets place h =
     reads_then _ (reads_magnitudes 4 offsets (small_bands offsets h))
     (reads_then _ (reads_signs offsets)
-    (reads_map (λ p. component (Band p) offsets) (reads_fixed 5 position place)))
+    (reads_map (λ p. component (Band p) offsets) (reads_small_number 5 position place)))
 
 -- whatever tells the class
 reads_edge : (class : ℕ) (offsets : List ℤ) (class_script : UnitScript ℕ)
@@ -185,7 +185,7 @@ reads_component : (kind : SaoKind) (offsets : List ℤ) → IsKind kind →
 reads_component Off offsets k h = reads_off offsets h
 reads_component (Band position) offsets k h = reads_band position offsets k h
 reads_component (Edge class) offsets k h =
-    reads_edge class offsets (fixed_length 2) (class_bins class) (reads_fixed 2 class k) h
+    reads_edge class offsets (fixed_length 2) (class_bins class) (reads_small_number 2 class k) h
 
 reads_like : (cb cr : SaoKind) (offsets : List ℤ) → IsKind cr → go_together cb cr ≡ true →
     are_in (ranges_of cr) offsets ≡ true →
@@ -213,9 +213,9 @@ reads_merge true = one nothing
 reads_merge false = nothing
 
 reads_type : (kind : SaoKind) → Reads sao_type_idx (sao_type_bins kind) (type_of kind)
-reads_type Off = reads_unary sao_type_at 2 0 0 (omega arith)
-reads_type (Band position) = reads_unary sao_type_at 2 0 1 (omega arith)
-reads_type (Edge class) = reads_unary sao_type_at 2 0 2 (omega arith)
+reads_type Off = reads_truncated_unary sao_type_at 2 0 0 (omega arith)
+reads_type (Band position) = reads_truncated_unary sao_type_at 2 0 1 (omega arith)
+reads_type (Edge class) = reads_truncated_unary sao_type_at 2 0 2 (omega arith)
 
 pub reads_sao : OffsetsAreReadBack
 unfolding sao sao_bins

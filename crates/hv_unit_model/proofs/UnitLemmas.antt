@@ -1,6 +1,6 @@
 -- What is read of the bins of coding units, coding quadtrees, coding tree units and slice data is
 -- what was coded (7.3.8.1 to 7.3.8.5).
-use Rattle.std.proofs.Common.{◌≡◌, ◌≢◌, ℕ, zero, suc, ◌+◌, ◌*◌, ◌<◌, ◌≤◌, Bool, true, false, cond, List, [], ◌∷◌, ◌++◌, map, refl, ap, arith}
+use Rattle.std.proofs.Common.{◌≡◌, ◌≢◌, ℕ, zero, suc, ◌+◌, ◌*◌, ◌<◌, ◌≤◌, Bool, true, false, cond, List, [], ◌∷◌, ◌++◌, refl, ap, arith}
 use Rattle.std.specs.Prelude.{nat_eq}
 use Rattle.std.proofs.lemmas.Bool.{true≢false, false≢true}
 use Rattle.std.proofs.lemmas.Nat.{mul-le}
@@ -10,8 +10,8 @@ use Rattle.hv_types.specs.declared.bins.CtxTable.TheVariants.{Split}
 use Rattle.hv_lemmas.specs.Booleans.{same}
 use Rattle.hv_stream_model.specs.Scripts.{Reads, nothing, one, Done, ask, ◌>>=◌}
 use Rattle.hv_stream_model.proofs.ScriptLemmas.{reads_then, reads_map, where_true}
-use Rattle.hv_residual_model.specs.UnitBins.{UnitQuestion, UnitBin, UnitScript, slice_bin, in_slice, unit_bin, context}
-use Rattle.hv_residual_model.specs.ResidualLaws.{LevelsAreReadBack, UnitScriptsReadInSlices}
+use Rattle.hv_residual_model.specs.UnitBins.{UnitQuestion, UnitBin, UnitScript, unit_bin, context}
+use Rattle.hv_residual_model.proofs.UnitBinLemmas.{reads_in_slice}
 use Rattle.hv_unit_model.specs.Trees.{Motion, Prediction, Intra, Inter, TransformUnit, Tree, Leaf, Split as SplitTree, Outside, CodingTreeUnit, greatest_size, log2TrafoSize, transform_units}
 use Rattle.hv_unit_model.specs.Sites.{Site, site, sites, sites_from, blocks_over, squares, crosses, row_of}
 use Rattle.hv_unit_model.specs.EarlierUnits.{Square, Surroundings, squares_of, after, in_picture, left_of, above_of, split_ctxInc}
@@ -25,15 +25,6 @@ use Rattle.hv_unit_model.proofs.ModeLemmas.{reads_luma_mode}
 use Rattle.hv_unit_model.proofs.MotionLemmas.{reads_prediction_unit}
 use Rattle.hv_unit_model.proofs.TransformLemmas.{reads_transform_tree, reads_rooted_tree}
 use Rattle.hv_unit_model.proofs.SquareLemmas.{modes_then, modes_of_node, picture_sees, candidate_is_mode, mode_above_is_mode}
-
--- ---- in a slice
-
-pub reads_in_slice : {A : Type 0} → UnitScriptsReadInSlices A
-reads_in_slice script bins value r = go r where
-  go : {A : Type 0} {s : UnitScript A} {xs : List UnitBin} {a : A} → Reads s xs a →
-      Reads (in_slice s) (map slice_bin xs) a
-  go nothing = nothing
-  go (one h) = one (go h)
 
 -- ---- a coding unit
 
@@ -57,7 +48,7 @@ behind_inter : (a b : UnitScript Tree) (xs : List UnitBin) (tree : Tree) (kind :
 behind_inter a b xs tree I references motion valid r = absurd valid
 behind_inter a b xs tree P references motion valid r = one (one (r valid))
 
-module _ (law : LevelsAreReadBack) (s : Surroundings) (sees : SeesModes s.look) where
+module _ (s : Surroundings) (sees : SeesModes s.look) where
   reads_intra : (size address : ℕ) (earlier : List Square) (mode : ℕ)
       (units : List TransformUnit) → HaveModes earlier → mode < intra_modes →
       AreTransformUnits (log2TrafoSize size) (transform_units size) units →
@@ -74,7 +65,7 @@ module _ (law : LevelsAreReadBack) (s : Surroundings) (sees : SeesModes s.look) 
       (candidate_is_mode left (sees earlier known _ _))
       (mode_above_is_mode edge above (sees earlier known _ _)) is_mode)
       (one (reads_map (λ list. Leaf (Intra mode) list)
-      (reads_transform_tree law (Intra mode) size units valid (λ off. absurd (true≢false off))))))
+      (reads_transform_tree (Intra mode) size units valid (λ off. absurd (true≢false off))))))
 
   reads_inter : (size address : ℕ) (earlier : List Square) (motion : Motion)
       (units : List TransformUnit) → IsMotion s.references motion →
@@ -86,7 +77,7 @@ module _ (law : LevelsAreReadBack) (s : Surroundings) (sees : SeesModes s.look) 
       one
       (reads_then _ (reads_prediction_unit s.references motion is_motion)
       (one (reads_map (λ list. Leaf (Inter motion) list)
-      (reads_rooted_tree law (Inter motion) size units valid))))
+      (reads_rooted_tree (Inter motion) size units valid))))
 
   reads_coding_unit : (size address : ℕ) (earlier : List Square) (prediction : Prediction)
       (units : List TransformUnit) → HaveModes earlier →
@@ -151,16 +142,16 @@ module _ (law : LevelsAreReadBack) (s : Surroundings) (sees : SeesModes s.look) 
       (reads_node size (address + 3 * n) behind_c d known_c valid.4))))))
 
 pub reads_nodes : NodesAreReadBack
-reads_nodes law s size address earlier tree sees known valid =
-    reads_node law s sees size address earlier tree known valid
+reads_nodes s size address earlier tree sees known valid =
+    reads_node s sees size address earlier tree known valid
 
 -- ---- a coding tree unit
 
 pub reads_coding_tree_unit : CodingTreeUnitsAreRead
-reads_coding_tree_unit law s unit sees offsets valid =
-    reads_then _ (reads_in_slice _ _ _ (reads_sao s.site unit.sao offsets))
+reads_coding_tree_unit s unit sees offsets valid =
+    reads_then _ (reads_in_slice (reads_sao s.site unit.sao offsets))
     (reads_then _
-    (reads_in_slice _ _ _ (reads_node law s sees greatest_size 0 [] unit.tree tt valid))
+    (reads_in_slice (reads_node s sees greatest_size 0 [] unit.tree tt valid))
     (one nothing))
 
 -- ---- slice data
@@ -169,28 +160,28 @@ same_flags : (a b : Bool) → a ≡ b → same a b ≡ true
 same_flags a true e = rw e refl
 same_flags a false e = rw e refl
 
-reads_from : LevelsAreReadBack → (slice_type : SliceKind) (references : ℕ) (done : List Square)
+reads_from : (slice_type : SliceKind) (references : ℕ) (done : List Square)
     (sites : List Site) (units : List CodingTreeUnit) → HaveModes done →
     AreValid slice_type references sites units →
     Reads (slice_data_from slice_type references done sites)
     (slice_bins_from slice_type references done sites units) units
-reads_from law slice_type references done [] [] known valid = nothing
-reads_from law slice_type references done [] (unit ∷ units) known valid = absurd valid
-reads_from law slice_type references done (site ∷ sites) [] known valid = absurd valid
-reads_from law slice_type references done (site ∷ sites) (unit ∷ units) known valid =
+reads_from slice_type references done [] [] known valid = nothing
+reads_from slice_type references done [] (unit ∷ units) known valid = absurd valid
+reads_from slice_type references done (site ∷ sites) [] known valid = absurd valid
+reads_from slice_type references done (site ∷ sites) (unit ∷ units) known valid =
     reads_then _
-    (reads_coding_tree_unit law (in_picture slice_type references site done) unit
+    (reads_coding_tree_unit (in_picture slice_type references site done) unit
     (picture_sees site done known) valid.0 valid.1)
     (where_true _ (same_flags unit.end_of_slice_segment_flag (is_empty sites) valid.2)
     (reads_map (λ others. unit ∷ others)
-    (reads_from law slice_type references (after greatest_size done unit.tree) sites units
+    (reads_from slice_type references (after greatest_size done unit.tree) sites units
     (modes_then done _ known
     (modes_of_node slice_type references site greatest_size 0 unit.tree valid.1))
     valid.3)))
 
 pub reads_slice : SliceDataIsReadBack
-reads_slice law slice_type references sites units valid =
-    reads_from law slice_type references [] sites units tt valid
+reads_slice slice_type references sites units valid =
+    reads_from slice_type references [] sites units tt valid
 
 -- ---- the blocks of a picture
 

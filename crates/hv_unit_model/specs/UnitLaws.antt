@@ -3,7 +3,6 @@ use Rattle.std.specs.Prelude.{◌≢◌, ℕ, ◌≤◌, List, []}
 use Rattle.hv_types.specs.declared.bins.SliceKind.{SliceKind}
 use Rattle.hv_plan.specs.declared.offsets.SaoParam.{SaoParam}
 use Rattle.hv_stream_model.specs.Scripts.{Reads}
-use Rattle.hv_residual_model.specs.ResidualLaws.{LevelsAreReadBack}
 use Rattle.hv_unit_model.specs.Trees.{Tree, CodingTreeUnit}
 use Rattle.hv_unit_model.specs.Sites.{Site, sites}
 use Rattle.hv_unit_model.specs.EarlierUnits.{Square, Surroundings}
@@ -17,11 +16,9 @@ OffsetsAreReadBack =
     (site : Site) (offsets : SaoParam) → AreOffsets offsets →
     Reads (sao site) (sao_bins site offsets) offsets
 
--- A node of any size, at any address, in any surroundings, behind any earlier squares. What stands
--- in front is the law of the levels of a transform block.
+-- a node of any size, at any address, in any surroundings, behind any earlier squares
 abbrev pub NodesAreReadBack : Type 0
 NodesAreReadBack =
-    LevelsAreReadBack →
     (s : Surroundings) (size address : ℕ) (earlier : List Square) (tree : Tree) →
     SeesModes s.look → HaveModes earlier →
     IsValidNode s.slice_type s.references s.site size address tree →
@@ -29,7 +26,6 @@ NodesAreReadBack =
 
 abbrev pub CodingTreeUnitsAreRead : Type 0
 CodingTreeUnitsAreRead =
-    LevelsAreReadBack →
     (s : Surroundings) (unit : CodingTreeUnit) → SeesModes s.look →
     AreOffsets unit.sao → IsValidTree s.slice_type s.references s.site unit.tree →
     Reads (coding_tree_unit s) (bins s unit) unit
@@ -37,7 +33,6 @@ CodingTreeUnitsAreRead =
 -- slice data of any kind, with any number of references, of any blocks
 abbrev pub SliceDataIsReadBack : Type 0
 SliceDataIsReadBack =
-    LevelsAreReadBack →
     (slice_type : SliceKind) (references : ℕ) (sites : List Site) (units : List CodingTreeUnit) →
     AreValid slice_type references sites units →
     Reads (slice_segment_data slice_type references sites)

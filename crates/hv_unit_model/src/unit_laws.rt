@@ -9,22 +9,20 @@ pub fn offsets_are_read_back()
 {}
 
 /// The script of a coding quadtree (7.3.8.4) reads each tree that may be coded at a node from its
-/// bins, where the levels of transform blocks are read back. It holds in slices of both kinds, with
-/// any number of references, behind any units coded earlier whose modes are modes.
+/// bins. It holds in slices of both kinds, with any number of references, behind any units coded
+/// earlier whose modes are modes.
 pub fn nodes_are_read_back()
     ensures { NodesAreReadBack }
 {}
 
 /// At each coding tree block the script of a coding tree unit (7.3.8.2) reads offsets, tree and
-/// `end_of_slice_segment_flag` from their bins, where they may be coded there, and where the levels
-/// of transform blocks are read back.
+/// `end_of_slice_segment_flag` from their bins, where they may be coded there.
 pub fn coding_tree_units_are_read()
     ensures { CodingTreeUnitsAreRead }
 {}
 
 /// The script of slice data (7.3.8.1) with any number of coding tree blocks reads the coding tree
-/// units from their bins, where they may be coded there, and where the levels of transform blocks
-/// are read back.
+/// units from their bins, where they may be coded there.
 pub fn slice_data_is_read_back()
     ensures { SliceDataIsReadBack }
 {}

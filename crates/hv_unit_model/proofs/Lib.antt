@@ -1,4 +1,5 @@
 pub mod FlagLemmas
+pub mod GeometryLemmas
 pub mod ModeLemmas
 pub mod MotionLemmas
 pub mod OffsetLemmas
@@ -10,4 +11,5 @@ mod WorkedModes
 mod WorkedOffsets
 mod WorkedPictures
 mod WorkedRefusals
+mod WorkedSlices
 mod WorkedUnits

@@ -1,12 +1,14 @@
 -- What is seen of units that may be coded has modes of intra prediction (8.4.2).
-use Rattle.std.proofs.Common.{ℕ, zero, suc, ◌+◌, ◌*◌, ◌<◌, Bool, true, false, cond, List, [], ◌∷◌, ◌++◌, replicate, arith}
+use Rattle.std.proofs.Common.{◌≡◌, length, length-append, ℕ, zero, suc, ◌+◌, ◌*◌, ◌<◌, Bool, true, false, cond, List, [], ◌∷◌, ◌++◌, replicate, arith}
 use Rattle.std.specs.Prelude.{slice_index_or}
+use Rattle.std.proofs.lemmas.List.{length-replicate}
 use Rattle.hv_types.specs.declared.bins.SliceKind.{SliceKind}
 use Rattle.hv_unit_model.specs.Trees.{Prediction, Intra, Inter, Tree, Leaf, Split, Outside, depth_of}
 use Rattle.hv_unit_model.specs.Sites.{Site, squares}
 use Rattle.hv_unit_model.specs.EarlierUnits.{Square, Unavailable, Coded, squares_of, look_picture}
 use Rattle.hv_unit_model.specs.MostProbableModes.{dc, candIntraPredMode}
 use Rattle.hv_unit_model.specs.Validity.{IsPrediction, IsValidNode, HasMode, HaveModes, SeesModes, intra_modes}
+use Rattle.hv_unit_model.specs.UnitLaws.{NodesHaveTheirSquares}
 
 pub modes_then : (xs ys : List Square) → HaveModes xs → HaveModes ys → HaveModes (xs ++ ys)
 modes_then [] ys h k = k
@@ -46,6 +48,35 @@ modes_of_node kind references site (suc size) address (Split a b c d) valid =
     (modes_then (squares_of size c) _
     (modes_of_node kind references site size (address + 2 * n) c valid.3)
     (modes_of_node kind references site size (address + 3 * n) d valid.4)))
+
+-- ---- how many they are
+
+pub length-squares : NodesHaveTheirSquares
+unfolding IsValidNode
+length-squares kind references site zero address Outside valid =
+    length-replicate (squares zero) Unavailable
+length-squares kind references site (suc size) address Outside valid =
+    length-replicate (squares (suc size)) Unavailable
+length-squares kind references site zero address (Leaf prediction units) valid =
+    length-replicate (squares zero) (Coded (depth_of zero) prediction)
+length-squares kind references site (suc size) address (Leaf prediction units) valid =
+    length-replicate (squares (suc size)) (Coded (depth_of (suc size)) prediction)
+length-squares kind references site zero address (Split a b c d) valid = absurd valid
+length-squares kind references site (suc size) address (Split a b c d) valid =
+    let n : ℕ = squares size in
+    let first : length (squares_of size a) ≡ n =
+    length-squares kind references site size address a valid.1 in
+    let second : length (squares_of size b) ≡ n =
+    length-squares kind references site size (address + n) b valid.2 in
+    let third : length (squares_of size c) ≡ n =
+    length-squares kind references site size (address + 2 * n) c valid.3 in
+    let fourth : length (squares_of size d) ≡ n =
+    length-squares kind references site size (address + 3 * n) d valid.4 in
+    rw (
+      length-append (squares_of size a) (squares_of size b ++ (squares_of size c ++ squares_of size d)),
+      length-append (squares_of size b) (squares_of size c ++ squares_of size d),
+      length-append (squares_of size c) (squares_of size d),
+    ) (omega (arith, first, second, third, fourth))
 
 -- ---- what is seen in a picture
 

@@ -1,6 +1,9 @@
 -- What is read of the bins of a transform tree is what was coded (7.3.8.8, 7.3.8.10).
-use Rattle.std.proofs.Common.{◌≡◌, ℕ, zero, suc, ◌-◌, ◌≤◌, Bool, true, false, cond, List, [], ◌∷◌, length, replicate, refl, sym, ap₂, subst, arith, append-nil, ℤ, pos}
+use Rattle.std.proofs.Common.{◌≡◌, ℕ, zero, suc, ◌-◌, ◌*◌, ◌^◌, ◌≤◌, Bool, true, false, cond, List, [], ◌∷◌, length, replicate, refl, sym, ap₂, subst, arith, append-nil, ℤ, pos}
 use Rattle.std.specs.Prelude.{nat_lt, ◌&&◌, ◌||◌}
+use Rattle.std.specs.List.{list_all}
+use Rattle.hv_residual_model.specs.ResidualSyntax.{has_16_bits}
+use Rattle.std.proofs.lemmas.List.{length-replicate}
 use Rattle.std.proofs.lemmas.Bool.{ltb-false, or_parts, and_from, true≢false}
 use Rattle.hv_types.specs.declared.bins.CtxTable.TheVariants.{CbfChroma}
 use Rattle.hv_lemmas.specs.Booleans.{same}
@@ -39,10 +42,38 @@ all_zero (level ∷ levels) none =
     let parts = or_parts (is_significant level) (any_significant levels) none in
     ap₂ (λ first others. first ∷ others) (insignificant level parts.0) (all_zero levels parts.1)
 
+small_zeros : (n : ℕ) → list_all has_16_bits (replicate n (pos 0)) ≡ true
+small_zeros zero = refl
+small_zeros (suc n) = small_zeros n
+
 nothing_there : (log2 : ℕ) (levels : List ℤ) → HaveLevels log2 levels →
     any_significant levels ≡ false → no_levels log2 ≡ levels
 unfolding no_levels
 nothing_there log2 levels valid none = rw (sym valid.whole) (all_zero levels none)
+
+levels_of_nothing : (log2 : ℕ) → HaveLevels log2 (no_levels log2)
+unfolding no_levels
+levels_of_nothing log2 = record {
+  whole = length-replicate _ _;
+  small = small_zeros (2 ^ log2 * 2 ^ log2);
+}
+
+units_of_nothing : (log2 count : ℕ) →
+    AreTransformUnits log2 count (replicate count (no_unit log2))
+units_of_nothing log2 zero = tt
+units_of_nothing log2 (suc count) =
+    let t : IsTransformUnit log2 (no_unit log2) = record {
+      luma = levels_of_nothing log2;
+      cb = levels_of_nothing (log2 - 1);
+      cr = levels_of_nothing (log2 - 1);
+    } in
+    (t, units_of_nothing log2 count)
+
+-- a unit may have no level but 0
+pub no_units_valid : (size : ℕ) →
+    AreTransformUnits (log2TrafoSize size) (transform_units size) (no_units size)
+unfolding no_units
+no_units_valid size = units_of_nothing (log2TrafoSize size) (transform_units size)
 
 no_level_of_unit : (log2 : ℕ) (t : TransformUnit) → IsTransformUnit log2 t →
     any_significant t.luma ≡ false → any_significant t.cb ≡ false →

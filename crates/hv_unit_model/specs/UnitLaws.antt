@@ -1,11 +1,11 @@
 -- What is read of the bins of slice data is what was coded.
-use Rattle.std.specs.Prelude.{◌≢◌, ℕ, ◌≤◌, List, []}
+use Rattle.std.specs.Prelude.{◌≡◌, ◌≢◌, ℕ, ◌+◌, ◌%◌, ◌^◌, ◌<◌, ◌≤◌, List, [], length}
 use Rattle.hv_types.specs.declared.bins.SliceKind.{SliceKind}
 use Rattle.hv_plan.specs.declared.offsets.SaoParam.{SaoParam}
 use Rattle.hv_stream_model.specs.Scripts.{Reads}
-use Rattle.hv_unit_model.specs.Trees.{Tree, CodingTreeUnit}
-use Rattle.hv_unit_model.specs.Sites.{Site, sites}
-use Rattle.hv_unit_model.specs.EarlierUnits.{Square, Surroundings}
+use Rattle.hv_unit_model.specs.Trees.{Tree, CodingTreeUnit, greatest_size}
+use Rattle.hv_unit_model.specs.Sites.{Site, sites, address_of, column_of, row_of, squares}
+use Rattle.hv_unit_model.specs.EarlierUnits.{Square, Surroundings, squares_of}
 use Rattle.hv_unit_model.specs.Validity.{AreOffsets, HaveModes, SeesModes, IsValidNode, IsValidTree, AreValid}
 use Rattle.hv_unit_model.specs.BlockSyntax.{sao, coding_quadtree, coding_tree_unit, slice_segment_data}
 use Rattle.hv_unit_model.specs.Bins.{sao_bins, bins_of_node, bins, slice_bins}
@@ -37,6 +37,37 @@ SliceDataIsReadBack =
     AreValid slice_type references sites units →
     Reads (slice_segment_data slice_type references sites)
     (slice_bins slice_type references sites units) units
+
+-- ---- places
+
+-- an address of a block's 64 squares is that of a column and a row, and the other way round
+abbrev pub AddressesArePlaces : Type 0
+AddressesArePlaces =
+    (address : ℕ) → address < 64 →
+    (address_of (column_of address) (row_of address) ≡ address) ×
+    (column_of address < 8) × (row_of address < 8)
+
+abbrev pub PlacesHaveAddresses : Type 0
+PlacesHaveAddresses =
+    (column row : ℕ) → column < 8 → row < 8 →
+    (column_of (address_of column row) ≡ column) × (row_of (address_of column row) ≡ row) ×
+    (address_of column row < 64)
+
+-- the squares of a node at a multiple of their number are a square of 2^size by 2^size
+abbrev pub NodesAreSquares : Type 0
+NodesAreSquares =
+    (size address b : ℕ) → size ≤ greatest_size → address < 64 → address % squares size ≡ 0 →
+    b < squares size →
+    (column_of (address + b) ≡ column_of address + column_of b) ×
+    (row_of (address + b) ≡ row_of address + row_of b) ×
+    (column_of b < 2 ^ size) × (row_of b < 2 ^ size)
+
+-- as many squares are known behind a node as it has, so that an address is a place in the list
+abbrev pub NodesHaveTheirSquares : Type 0
+NodesHaveTheirSquares =
+    (slice_type : SliceKind) (references : ℕ) (site : Site) (size address : ℕ) (tree : Tree) →
+    IsValidNode slice_type references site size address tree →
+    length (squares_of size tree) ≡ squares size
 
 -- a picture with a sample has a block
 abbrev pub SitesAreThere : Type 0

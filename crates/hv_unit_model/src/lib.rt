@@ -6,6 +6,7 @@
 mod unit_laws;
 
 pub use unit_laws::{
-    coding_tree_units_are_read, nodes_are_read_back, offsets_are_read_back, sites_are_there,
+    addresses_are_places, coding_tree_units_are_read, nodes_are_read_back, nodes_are_squares,
+    nodes_have_their_squares, offsets_are_read_back, places_have_addresses, sites_are_there,
     slice_data_is_read_back,
 };

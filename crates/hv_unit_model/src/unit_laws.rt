@@ -1,6 +1,6 @@
 //! What is read of the bins of slice data is what was coded.
 
-ghost use Rattle.hv_unit_model.specs.UnitLaws.{OffsetsAreReadBack, NodesAreReadBack, CodingTreeUnitsAreRead, SliceDataIsReadBack, SitesAreThere};
+ghost use Rattle.hv_unit_model.specs.UnitLaws.{OffsetsAreReadBack, NodesAreReadBack, CodingTreeUnitsAreRead, SliceDataIsReadBack, SitesAreThere, AddressesArePlaces, PlacesHaveAddresses, NodesAreSquares, NodesHaveTheirSquares};
 
 /// At each coding tree block the script of sample adaptive offsets (7.3.8.3) reads the offsets from
 /// their bins, where offsets are in their ranges and Cb and Cr have type and class in common.
@@ -30,4 +30,26 @@ pub fn slice_data_is_read_back()
 /// A picture of at least one luma sample a side has at least one coding tree block (6.5.1).
 pub fn sites_are_there()
     ensures { SitesAreThere }
+{}
+
+/// Each address of the 64 squares of a coding tree block is that of its column and row, below 8
+/// each (6.5.2).
+pub fn addresses_are_places()
+    ensures { AddressesArePlaces }
+{}
+
+/// Each column and row below 8 have an address below 64, whose column and row they are (6.5.2).
+pub fn places_have_addresses()
+    ensures { PlacesHaveAddresses }
+{}
+
+/// The squares of a node lie side by side, from its corner on.
+pub fn nodes_are_squares()
+    ensures { NodesAreSquares }
+{}
+
+/// Behind each node that may be coded as many more squares are known as it has: so an address is
+/// the place of a square in the list of those coded earlier.
+pub fn nodes_have_their_squares()
+    ensures { NodesHaveTheirSquares }
 {}

@@ -17,7 +17,7 @@ use std::thread::Threads;
 
 /// Encodes the source's video into the sink, and gives the exit code: 2 where the words are
 /// refused; where they are accepted and nothing fails, that of the status which the length of the
-/// input asks for, or 6, where there was not enough memory.
+/// input asks for; and in both cases 6, where there was not enough memory.
 pub(crate) fn encode_to_exit<S: Source, K: Sink, P: Sink, R: Threads + Wait + Sync>(
     rt: &R,
     alloc: Global,
@@ -26,7 +26,7 @@ pub(crate) fn encode_to_exit<S: Source, K: Sink, P: Sink, R: Threads + Wait + Sy
     out: &mut K,
     report: &mut P,
 ) -> u8
-    ensures refused { IsRefused words.now → result ≡ 2 }
+    ensures refused { IsRefused words.now → (result ≡ 2) ⊎ (result ≡ 6) }
     ensures refused_source { IsRefused words.now → source.new ≡ source.old }
     ensures refused_out { IsRefused words.now → out.new ≡ out.old }
     ensures due { (cfg : SettingsSeen) (bytes : List ℕ) → AsksFor words.now cfg →

@@ -1,6 +1,6 @@
 -- What each status says, from how the encoding ended and what was reported.
 use Rattle.std.proofs.Common.{◌≡◌, ℕ, ◌+◌, ◌*◌, ◌/◌, ◌%◌, ◌<◌, ◌≤◌, Bool, true, false, List, length, refl, sym, ap, subst, ◌∙◌, inl, inr, arith, length-drop}
-use Rattle.std.specs.Prelude.{Option, Some, nat_eq, Err}
+use Rattle.std.specs.Prelude.{Option, Some, IsSome, nat_eq, Err, string_bytes}
 use Rattle.std.proofs.lemmas.Nat.{div-add-mod', mul-le}
 use Rattle.std.proofs.Math.Nat.{lt-div-mul-add}
 use Rattle.std.proofs.lemmas.Bool.Decides.{nat_tests}
@@ -18,12 +18,15 @@ use Rattle.hv_serial.specs.declared.encode.EncodeError.{EncodeError}
 use Rattle.hv_serial.specs.declared.encode.EncodeError.TheVariants as error
 use Rattle.hv_run.specs.declared.status.Status.{Status}
 use Rattle.hv_run.specs.declared.status.Status.TheVariants.{Ok, Words, ReadFault, ShortPicture, WriteFault, NoMemory, TooLong, ReportFault}
-use Rattle.hv_words.specs.CommandLine.{AsksFor}
+use Rattle.hv_words.specs.declared.refusal.WordsError.{WordsError}
+use Rattle.hv_words.specs.declared.refusal.WordsError.TheVariants as words
+use Rattle.hv_words.specs.Answers.{Answers, HasLine}
+use Rattle.hv_words.specs.CommandLine.{AsksFor, Refusal, no_command_line, faulty, not_built, refusal}
 use Rattle.hv_words.proofs.AcceptanceLemmas.{same_settings}
 use Rattle.hv_serial.specs.Transfers.{Drawn, Put, Grows, PutsPart}
 use Rattle.hv_serial.specs.Outcomes.{pictures_in, rest_in, group_count, WroteGroups, IsReadToEnd, EndsWithin, GoesOn}
 use Rattle.hv_serial.specs.Endings.{BothTold, Ends, EndsOk, AreTotals}
-use Rattle.hv_run.specs.Report.{Reports, encoded_line, error_line, totals_line, line_of}
+use Rattle.hv_run.specs.Report.{Reports, ReportsRefusal, encoded_line, error_line, totals_line, line_of, no_memory_line, words_line, is_want_of_memory}
 use Rattle.hv_run.specs.Statuses.{is_whole, is_of_input, fixed_line, status_of, Concludes, ConcludedOk, ConcludedReportFault, due, status_due, IsDue}
 use Rattle.hv_serial.proofs.ProgressLemmas.{next_place}
 
@@ -47,6 +50,39 @@ concluded_error cfg d w r size e s of_picture is ends reports =
     error_case cfg d w r error.WriteFault ends reports = record { encoded = ends; reported = reports }
     error_case cfg d w r error.NoMemory ends reports = record { encoded = ends; reported = reports }
     error_case cfg d w r error.TooLong ends reports = record { encoded = ends; reported = reports }
+
+-- ---- words that give no settings
+
+-- an error that isn't want of memory is a refusal
+pub refused_so : (why : Option Refusal) (error : WordsError) → Answers why error → is_want_of_memory error ≡ false → IsSome why
+refused_so why (words.Parse text) h e = subst (λ (o : Option Refusal). IsSome o) (sym h) refl
+refused_so why (words.Config error) h e = subst (λ (o : Option Refusal). IsSome o) (sym h) refl
+refused_so why words.NotBuilt h e = subst (λ (o : Option Refusal). IsSome o) (sym h) refl
+refused_so why words.NoMemory h e = cc
+
+-- accepted words are refused by none but want of memory
+pub not_refused : (words : List (List ℕ)) (cfg : Settings) (error : WordsError) → AsksFor words cfg → Answers (refusal words) error → is_want_of_memory error ≡ false → ⊥
+not_refused words cfg error a h e = subst (λ (o : Option Refusal). IsSome o → ⊥) (sym a.accepted) (λ some. cc) (refused_so (refusal words) error h e)
+
+-- the report tells of the refusal
+pub refusal_told : (r : Put) (why : Refusal) (found : Option Refusal) (error : WordsError) → found ≡ Some why → Answers found error → HasLine error → is_want_of_memory error ≡ false →
+    Reports r (words_line error) → ReportsRefusal r why
+refusal_told r why found (words.Parse text) is h line e told =
+    subst (λ (w : Refusal). ReportsRefusal r w) (some_same no_command_line why (sym h ∙ is)) (record {
+      text = string_bytes text;
+      line = line;
+      reports = told;
+    })
+refusal_told r why found (words.Config error) is h line e told = subst (λ (w : Refusal). ReportsRefusal r w) (some_same (faulty error) why (sym h ∙ is)) told
+refusal_told r why found words.NotBuilt is h line e told = subst (λ (w : Refusal). ReportsRefusal r w) (some_same not_built why (sym h ∙ is)) told
+refusal_told r why found words.NoMemory is h line e told = cc
+
+-- the report tells of want of memory
+pub no_memory_told : (r : Put) (error : WordsError) (line : List ℕ) → is_want_of_memory error ≡ true → Some no_memory_line ≡ Some line → Reports r (words_line error) → Reports r line
+no_memory_told r (words.Parse text) line e is told = cc
+no_memory_told r (words.Config error) line e is told = cc
+no_memory_told r words.NotBuilt line e is told = cc
+no_memory_told r words.NoMemory line e is told = subst (λ (x : List ℕ). Reports r x) (some_same no_memory_line line is) told
 
 -- ---- what the statuses share
 

@@ -1,13 +1,15 @@
 -- The lines of the report.
-use Rattle.std.specs.Prelude.{◌≡◌, ◌⊎◌, ℕ, List, ◌++◌, length, codes, decimal}
+use Rattle.std.specs.Prelude.{◌≡◌, ◌⊎◌, ℕ, Bool, true, false, List, ◌++◌, length, codes, decimal, string_bytes}
 use Rattle.hv_types.specs.declared.settings.Settings.{Settings}
 use Rattle.hv_types.specs.declared.settings.ConfigError.{ConfigError}
-use Rattle.hv_types.specs.declared.settings.ConfigError.TheVariants.{OddSize, SizeRange, GroupTooLarge, OutOfRange}
 use Rattle.hv_types.specs.declared.picture.Picture.{Picture}
 use Rattle.hv_types.specs.Outside.{Rises}
 use Rattle.hv_model.specs.Encoding.{output}
-use Rattle.hv_words.specs.declared.words.WordsError.{WordsError}
-use Rattle.hv_words.specs.declared.words.WordsError.TheVariants.{Parse, Config, NotBuilt}
+use Rattle.hv_words.specs.declared.refusal.WordsError.{WordsError}
+use Rattle.hv_words.specs.declared.refusal.WordsError.TheVariants as words
+use Rattle.hv_words.specs.Answers.{IsLine}
+use Rattle.hv_words.specs.CommandLine.{Refusal, no_command_line, faulty, not_built}
+use Rattle.hv_words.specs.Texts.{fault_text}
 use Rattle.hv_serial.specs.declared.encode.Totals.{Totals}
 use Rattle.hv_serial.specs.declared.encode.EncodeError.{EncodeError}
 use Rattle.hv_serial.specs.declared.encode.EncodeError.TheVariants.{ReadFault, ShortPicture, WriteFault, NoMemory, TooLong}
@@ -30,16 +32,10 @@ short_line have size =
     counted (codes "short picture: ") have ++ (counted (codes " of ") size ++ codes " bytes\n")
 
 abbrev pub config_line : ConfigError → List ℕ
-config_line OddSize = codes "odd size\n"
-config_line SizeRange = codes "size out of range\n"
-config_line GroupTooLarge = codes "group too large\n"
-config_line (OutOfRange field) = codes "value out of range\n"
+config_line error = fault_text error ++ codes "\n"
 
--- the words are refused
-abbrev pub words_line : WordsError → List ℕ
-words_line Parse = codes "bad words\n"
-words_line (Config error) = config_line error
-words_line NotBuilt = codes "not built\n"
+abbrev pub not_built_line : List ℕ
+not_built_line = codes "not built\n"
 
 abbrev pub read_fault_line : List ℕ
 read_fault_line = codes "read fault\n"
@@ -52,6 +48,19 @@ no_memory_line = codes "no memory\n"
 
 abbrev pub too_long_line : List ℕ
 too_long_line = codes "more than 400000 pictures\n"
+
+-- an error of the words: the text of `clap` is a line, or more
+abbrev pub words_line : WordsError → List ℕ
+words_line (words.Parse text) = string_bytes text
+words_line (words.Config error) = config_line error
+words_line words.NotBuilt = not_built_line
+words_line words.NoMemory = no_memory_line
+
+abbrev pub is_want_of_memory : WordsError → Bool
+is_want_of_memory (words.Parse text) = false
+is_want_of_memory (words.Config error) = false
+is_want_of_memory words.NotBuilt = false
+is_want_of_memory words.NoMemory = true
 
 -- an encoding of pictures of this size doesn't come to its end
 abbrev pub error_line : ℕ → EncodeError → List ℕ
@@ -84,3 +93,15 @@ pub record TellsPart (r : Put) (line : List ℕ) : Type 0 where
 -- as far as the report takes the line
 abbrev pub Reports : Put → List ℕ → Type 0
 Reports r line = Tells r line ⊎ TellsPart r line
+
+-- of words that are no command line, whatever is told ends with a line feed
+pub record ReportsText (r : Put) : Type 0 where
+  pub text : List ℕ
+  pub line : IsLine text
+  pub reports : Reports r text
+
+-- what is told of words that are refused so
+abbrev pub ReportsRefusal : Put → Refusal → Type 0
+ReportsRefusal r no_command_line = ReportsText r
+ReportsRefusal r (faulty error) = Reports r (config_line error)
+ReportsRefusal r not_built = Reports r not_built_line

@@ -5,13 +5,13 @@
 ghost use Rattle.std.specs.Prelude.{◌≡◌, ◌≤◌, ◌+◌, ◌++◌, length, OnOk, OnErr};
 ghost use Rattle.arrayvec.specs.ArrayString.{array_string_len};
 ghost use Rattle.hv_serial.specs.Transfers.{put};
-ghost use Rattle.hv_run.specs.Report.{Tells, TellsPart, Reports, counted, short_line as short_line_of, words_line, config_line};
+ghost use Rattle.hv_run.specs.Report.{Tells, TellsPart, Reports, counted, short_line as short_line_of, words_line, config_line as config_line_of};
 ghost use Rattle.hv_run.specs.Report.{error_line as error_line_of, totals_line as totals_line_of};
 
 use arrayvec::ArrayString;
 use hv_serial::{EncodeError, Totals, write_all};
 use hv_types::{ConfigError, Failed, Sink};
-use hv_words::WordsError;
+use hv_words::{WordsError, fault_text};
 use itoa::Buffer;
 
 /// The most bytes of a number: its digits, and a sign, of 128 bits.
@@ -41,11 +41,16 @@ pub(crate) fn report_error<P: Sink>(report: &mut P, error: EncodeError, size: u6
     let _ = put_line(report, error_line(error, size).as_str());
 }
 
-/// Writes the line of words that are refused, as far as the report takes it.
-pub(crate) fn report_refusal<P: Sink>(report: &mut P, error: WordsError)
-    ensures { Reports (put P.written P.faults report.old report.new) (words_line error) }
+/// Writes what is told of words that give no settings, as far as the report takes it.
+pub(crate) fn report_words<P: Sink>(report: &mut P, error: &WordsError)
+    ensures { Reports (put P.written P.faults report.old report.new) (words_line error.now) }
 {
-    let _ = put_line(report, refusal_text(error));
+    let _ = match error {
+        WordsError::Parse { text } => put_line(report, text.as_str()),
+        WordsError::Config { error } => put_line(report, config_line(*error).as_str()),
+        WordsError::NotBuilt => put_line(report, "not built\n"),
+        WordsError::NoMemory => put_line(report, "no memory\n"),
+    };
 }
 
 /// Hands a line over.
@@ -112,25 +117,12 @@ fn put_counted(line: &mut Line, text: &str, number: u128)
     line.push_str(Buffer::new().format(number));
 }
 
-/// The line of words that are refused.
-fn refusal_text(error: WordsError) -> &'static str
-    ensures { result.now ≡ words_line error }
-{
-    match error {
-        WordsError::Parse => "bad words\n",
-        WordsError::Config { error } => config_text(error),
-        WordsError::NotBuilt => "not built\n",
-    }
-}
-
 /// The line of settings with a fault.
-fn config_text(error: ConfigError) -> &'static str
-    ensures { result.now ≡ config_line error }
+fn config_line(error: ConfigError) -> Line
+    ensures { result.bytes ≡ config_line_of error }
 {
-    match error {
-        ConfigError::OddSize => "odd size\n",
-        ConfigError::SizeRange => "size out of range\n",
-        ConfigError::GroupTooLarge => "group too large\n",
-        ConfigError::OutOfRange { field: _ } => "value out of range\n",
-    }
+    let mut line = Line::new();
+    line.push_str(fault_text(error));
+    line.push_str("\n");
+    line
 }

@@ -1,6 +1,6 @@
 //! The top call.
 
-ghost use Rattle.std.specs.Prelude.{◌≡◌, ℕ, List, Some, length, IsTrue};
+ghost use Rattle.std.specs.Prelude.{◌≡◌, ◌⊎◌, ℕ, List, Some, length, IsTrue};
 ghost use Rattle.hv_types.specs.declared.settings.Settings.{Settings as SettingsSeen};
 ghost use Rattle.hv_types.specs.declared.picture.Picture.{Picture as PictureSeen};
 ghost use Rattle.hv_types.specs.declared.settings.Emit.TheVariants.{Stream};
@@ -9,20 +9,19 @@ ghost use Rattle.hv_types.specs.Outside.{Rises};
 ghost use Rattle.hv_model.specs.Built.{IsBuilt};
 ghost use Rattle.hv_model.specs.Decoding.{decode_of};
 ghost use Rattle.hv_model.specs.Encoding.{encode_of, recon_of, output};
-ghost use Rattle.hv_words.specs.declared.words.WordsError.{WordsError as WordsErrorSeen};
-ghost use Rattle.hv_words.specs.CommandLine.{AsksFor, IsRefused, refusal};
+ghost use Rattle.hv_words.specs.CommandLine.{AsksFor, IsRefused, Refusal, refusal};
 ghost use Rattle.hv_serial.specs.Transfers.{drawn, put, Grows, PutsPart};
 ghost use Rattle.hv_serial.specs.Outcomes.{pictures_in, IsReadToEnd, EndsWithin, GoesOn};
 ghost use Rattle.hv_serial.specs.Outcomes.{WroteGroups, WroteSome, WrotePart};
-ghost use Rattle.hv_run.specs.Report.{Reports, line_of, short_line, words_line};
+ghost use Rattle.hv_run.specs.Report.{Reports, ReportsRefusal, line_of, short_line, is_want_of_memory};
 ghost use Rattle.hv_run.specs.Statuses.{is_whole, is_of_input, fixed_line, IsDue, Concludes};
 ghost use Rattle.hv_run.specs.Statuses.{status_of as status_of_error};
 
-use crate::report::{report_error, report_refusal, report_totals};
+use crate::report::{report_error, report_totals, report_words};
 use crate::status::Status;
 use hv_serial::{EncodeError, encode_video};
 use hv_types::{Config, Failed, Gate, Sink, Source, Words};
-use hv_words::config_of_words;
+use hv_words::{WordsError, config_of_words};
 use std::alloc::Global;
 use std::sync::Wait;
 use std::thread::Threads;
@@ -30,13 +29,13 @@ use std::thread::Threads;
 /// Reads the words of a command line, encodes the video of the source, writes the output, and then
 /// the line of the status to the report.
 ///
-/// The words are `--width W --height H --qp Q --levels L --group 1 --effort 0`, in this order, with
-/// any size that `Config::checked` accepts, `Q` in 0 to 51 and `L` in 0 to 3. The video is raw
-/// 8-bit 4:2:0, at most 400,000 pictures, each of which is a group of its own. A group is read,
-/// encoded and written before the next one is read. The gate isn't used yet, and no thread is
-/// started. The first refusal in the order of words, reading, encoding, writing and report ends the
-/// call. Behind the last write, and before the report, `out` is asked once for its end, also where
-/// nothing was written: a refusal there is `WriteFault`.
+/// The words are those of `config_of_words`, with any size that `Config::checked` accepts. Built so
+/// far are `--group 1 --effort 0` with one worker, a stream as output and no generator; others are
+/// refused. The video is raw 8-bit 4:2:0, at most 400,000 pictures, each of which is a group of its
+/// own. A group is read, encoded and written before the next one is read. The gate isn't used yet,
+/// and no thread is started. The first refusal in the order of words, reading, encoding, writing
+/// and report ends the call. Behind the last write, and before the report, `out` is asked once for
+/// its end, also where nothing was written: a refusal there is `WriteFault`.
 ///
 /// A clause on `cfg` speaks of accepted words, which ask for these settings; one on `bytes` of a
 /// source that tells its bytes, and that had these left; one on `left` of a source that has these
@@ -71,9 +70,10 @@ pub fn run_encode<S: Source, K: Sink, P: Sink, G: Gate, R: Threads + Wait + Sync
     ensures as_many { (cfg : SettingsSeen) (v : List PictureSeen) →
         length (recon_of cfg v) ≡ length v }
 
-    // The words are refused, and nothing is touched.
+    // The words are refused, unless there is no memory to read them, and nothing is touched.
     ensures words_only { result ≡ Status.Words → IsRefused words.now }
-    ensures words_then { IsRefused words.now → result ≡ Status.Words }
+    ensures words_unless_memory { IsRefused words.now →
+        (result ≡ Status.Words) ⊎ (result ≡ Status.NoMemory) }
     ensures words_source { IsRefused words.now → source.new ≡ source.old }
     ensures words_out { IsRefused words.now → out.new ≡ out.old }
 
@@ -109,9 +109,9 @@ pub fn run_encode<S: Source, K: Sink, P: Sink, G: Gate, R: Threads + Wait + Sync
         S.left source.old ≡ Some bytes → result ≡ Status.ReportFault →
         PutsPart (P.written report.old) (P.written report.new)
         (line_of cfg (pictures_in cfg bytes)) }
-    ensures words_report { (error : WordsErrorSeen) →
-        refusal words.now ≡ Some error → result ≡ Status.Words →
-        Reports (put P.written P.faults report.old report.new) (words_line error) }
+    ensures words_report { (why : Refusal) → refusal words.now ≡ Some why →
+        result ≡ Status.Words →
+        ReportsRefusal (put P.written P.faults report.old report.new) why }
     ensures short_report { (cfg : SettingsSeen) (have : ℕ) → AsksFor words.now cfg →
         result ≡ Status.ShortPicture have →
         Reports (put P.written P.faults report.old report.new)
@@ -127,13 +127,24 @@ pub fn run_encode<S: Source, K: Sink, P: Sink, G: Gate, R: Threads + Wait + Sync
         ¬ Rises (P.faults report.old) (P.faults report.new) →
         IsDue cfg (length bytes) result }
 {
-    match config_of_words(words) {
+    match config_of_words(alloc, words) {
         Ok(config) => encode_and_report(alloc, &config, source, out, report),
         Err(error) => {
-            report_refusal(report, error);
-            Status::Words
+            report_words(report, &error);
+            if is_want_of_memory(&error) {
+                Status::NoMemory
+            } else {
+                Status::Words
+            }
         }
     }
+}
+
+/// Whether words aren't refused, but can't be read.
+fn is_want_of_memory(error: &WordsError) -> bool
+    ensures { result ≡ is_want_of_memory error.now }
+{
+    matches!(error, WordsError::NoMemory)
 }
 
 /// Encodes the video and reports how that ends.

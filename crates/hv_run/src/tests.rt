@@ -191,15 +191,16 @@ fn reports_that_fail(rt: HostRuntime) -> Result<(), Fail> {
 #[rattlefmt::skip]
 fn words_that_are_refused(rt: HostRuntime) -> Result<(), Fail> {
     for (line, report) in [
-        ("", "bad words\n"),
-        ("--width 64 --height 64 --qp 26 --levels 0 --group 1 --speed 0", "bad words\n"),
-        ("--width 64 --height 64 --qp 26 --levels 0 --group 1 --effort 0 more", "bad words\n"),
-        ("--width 64 --height 64 --qp +26 --levels 0 --group 1 --effort 0", "bad words\n"),
+        ("", "error: the following required arguments were not provided:\n"),
+        ("--help", "Encodes raw video"),
+        ("--width 64 --height 64 --speed 0", "error: unexpected argument '--speed' found\n"),
+        ("--width 64 --height 64 --emit video", "error: invalid value 'video' for '--emit <VALUE>'\n"),
+        ("--workers 17 --width 64 --height 64", "value out of range\n"),
         ("--width 65 --height 64 --qp 26 --levels 0 --group 1 --effort 0", "odd size\n"),
         ("--width 64 --height 2178 --qp 26 --levels 0 --group 1 --effort 0", "size out of range\n"),
         ("--width 4096 --height 2176 --qp 9 --levels 0 --group 31 --effort 0", "group too large\n"),
         ("--width 64 --height 64 --qp 52 --levels 0 --group 1 --effort 0", "value out of range\n"),
-        ("--width 64 --height 64 --qp 26 --levels 0 --group 2 --effort 0", "not built\n"),
+        ("--width 64 --height 64", "not built\n"),
     ] {
         refuses(&rt, rt.alloc(), line, report)?;
     }
@@ -216,7 +217,7 @@ fn refuses<R: Abort + Threads + Wait + Sync>(
     let words = words_of(alloc, line)?;
     let mut source = grey(alloc, 6144, 9000, &[0])?;
     let mut out = small(alloc, 80, &[0])?;
-    let mut report = small(alloc, 80, &[])?;
+    let mut report = MemorySink::new(alloc, 4000, 4000, Vec::new(alloc))?;
     let status = run_encode(
         rt,
         alloc,
@@ -227,7 +228,7 @@ fn refuses<R: Abort + Threads + Wait + Sync>(
         &OpenGate,
     );
     assert_eq!(rt; status, Status::Words, "{line}");
-    assert_eq!(rt; report.written(), want.as_bytes(), "{line}");
+    assert!(rt; report.written().starts_with(want.as_bytes()), "{line}");
     assert_eq!(rt; source.read(&mut [0; 1]), Err(Failed), "{line}");
     assert_eq!(rt; out.write(&[0]), Err(Failed), "{line}");
     assert_eq!(rt; out.written(), [].as_slice(), "{line}");

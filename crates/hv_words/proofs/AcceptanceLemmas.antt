@@ -10,7 +10,7 @@ use Rattle.hv_types.specs.Configuration.{fault_of}
 use Rattle.hv_types.proofs.ConfigurationLemmas.{valid}
 use Rattle.hv_model.specs.Built.{IsBuilt, is_built}
 use Rattle.hv_model.proofs.RoundTripLemmas.{built_decided}
-use Rattle.hv_words.specs.declared.words.WordsError.TheVariants.{NotBuilt}
+use Rattle.hv_words.specs.CommandLine.{not_built}
 use Rattle.hv_words.specs.CommandLine.{AsksFor, refusal_of_settings, refusal_by, is_accepted, is_stream, is_read}
 
 -- of four tests, the first and the third
@@ -20,7 +20,7 @@ first_and_third true true false d e = cc
 first_and_third true false c d e = cc
 first_and_third false b c d e = cc
 
-not_refused : (t : Bool) → cond t None (Some NotBuilt) ≡ None → t ≡ true
+not_refused : (t : Bool) → cond t None (Some not_built) ≡ None → t ≡ true
 not_refused true e = refl
 not_refused false e = cc
 

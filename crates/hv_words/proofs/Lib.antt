@@ -1,3 +1,4 @@
-mod DecimalLemmas
-mod TwelveWordLemmas
 pub mod AcceptanceLemmas
+mod CommandLemmas
+mod ReadingLemmas
+mod WorkedCommandLines

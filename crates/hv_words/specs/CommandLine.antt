@@ -1,9 +1,9 @@
 -- The words of the command line: the settings that they ask for, and when they are refused.
-use Rattle.std.specs.Prelude.{◌≡◌, ℕ, ◌+◌, ◌-◌, ◌*◌, ◌^◌, min, Bool, true, false, cond, nat_lt, nat_le, ◌&&◌, List, [], ◌∷◌, length, Option, Some, None, IsSome, codes}
-use Rattle.std.specs.List.{list_all}
-use Rattle.std.specs.Char.{is_ascii_digit}
-use Rattle.std.specs.Cmp.Lexicographic.{pointwise}
-use Rattle.std.specs.Prelude.{nat_eq}
+use Rattle.std.specs.Prelude.{◌≡◌, ℕ, min, Bool, true, false, cond, nat_eq, ◌&&◌, ◌||◌, ⊤, List, [], ◌∷◌, Option, Some, None, IsSome, codes, option_map, option_and_then, unwrap_or}
+use Rattle.std.specs.Str.{bytes_eq}
+use Rattle.std.specs.Str.Parse.{digits_value, without_leading_plus}
+use Rattle.clap.specs.Words.{Kinds, Row, Text, fault_of as clap_fault_of, first_of, matches_of, one_of}
+use Rattle.clap.specs.ValueTests.{is_unsigned_in}
 use Rattle.hv_types.specs.declared.settings.Settings.{Settings}
 use Rattle.hv_types.specs.declared.settings.SynthSpec.{SynthSpec}
 use Rattle.hv_types.specs.declared.settings.Emit.{Emit}
@@ -11,86 +11,80 @@ use Rattle.hv_types.specs.declared.settings.Emit.TheVariants.{Stream, Recon}
 use Rattle.hv_types.specs.declared.settings.ConfigError.{ConfigError}
 use Rattle.hv_types.specs.Configuration.{fault_of}
 use Rattle.hv_model.specs.Built.{is_built}
-use Rattle.hv_words.specs.declared.words.WordsError.{WordsError}
-use Rattle.hv_words.specs.declared.words.WordsError.TheVariants.{Parse, Config, NotBuilt}
+use Rattle.hv_words.specs.Command.{command, program_name}
 
--- ---- numbers
+-- ---- what the command makes of the words
 
--- the number that decimal digits make, behind those of which `so_far` is the number
-abbrev pub decimal_after : ℕ → List ℕ → ℕ
-decimal_after so_far [] = so_far
-decimal_after so_far (code ∷ rest) = decimal_after (10 * so_far + (code - 48)) rest
+-- `clap` reads the program's name before the words
+abbrev pub named : List Text → List Text
+named words = program_name ∷ words
 
--- one to ten decimal digits, of a number below 2^32; leading zeros pass
-abbrev pub is_number : List ℕ → Bool
-is_number word =
-    nat_le 1 (length word) && nat_le (length word) 10 && list_all is_ascii_digit word &&
-    nat_lt (decimal_after 0 word) (2 ^ 32)
+abbrev pub is_empty : Kinds → Bool
+is_empty [] = true
+is_empty (kind ∷ kinds) = false
 
-abbrev pub number_of_word : List ℕ → Option ℕ
-number_of_word word = cond (is_number word) (Some (decimal_after 0 word)) None
+-- the words are those of the command, by the definition of `clap`
+abbrev pub is_taken : List Text → Bool
+is_taken words = is_empty (clap_fault_of command (named words))
 
--- ---- options
+-- what stands for each option then: its value, or its default
+abbrev pub rows_of_words : List Text → List Row
+rows_of_words words = matches_of command (named words)
 
-abbrev pub is_word : List ℕ → List ℕ → Bool
-is_word text word = pointwise nat_eq word text
+-- ---- values
 
--- the number of `value`, where `word` is the option before it
-abbrev pub option_value : List ℕ → List ℕ → List ℕ → Option ℕ
-option_value option word value = cond (is_word option word) (number_of_word value) None
+-- the number that decimal digits make, behind at most one `+`; leading zeros pass
+abbrev pub number_of_text : Text → Option ℕ
+number_of_text text = cond (is_unsigned_in 0 4294967295 text)
+    (Some (digits_value 10 (without_leading_plus text))) None
 
-abbrev pub value_then : Option ℕ → Option (List ℕ) → Option (List ℕ)
-value_then None values = None
-value_then (Some value) None = None
-value_then (Some value) (Some values) = Some (value ∷ values)
+-- the number of an option, where it has one; each option of taken words that is required or has a
+-- default has
+abbrev pub number_in : List Row → Text → Option ℕ
+number_in rows name = option_and_then number_of_text (one_of name rows)
 
--- the values of options that stand in this order, each followed by its value; none where the words
--- are others
-abbrev pub values_of : List (List ℕ) → List (List ℕ) → Option (List ℕ)
-values_of [] [] = Some []
-values_of [] (word ∷ words) = None
-values_of (option ∷ options) [] = None
-values_of (option ∷ options) (word ∷ []) = None
-values_of (option ∷ options) (word ∷ value ∷ words) =
-    value_then (option_value option word value) (values_of options words)
+abbrev pub whole_in : List Row → Text → ℕ
+whole_in rows name = unwrap_or (number_in rows name) 0
 
-abbrev pub options : List (List ℕ)
-options =
-    codes "--width" ∷ codes "--height" ∷ codes "--qp" ∷ codes "--levels" ∷ codes "--group" ∷
-    codes "--effort" ∷ []
+-- a value above 255 stands as 255, which is out of each of these ranges
+abbrev pub byte_in : List Row → Text → ℕ
+byte_in rows name = min (whole_in rows name) 255
 
--- a value above 255 stands as 255
-abbrev pub byte_value : ℕ → ℕ
-byte_value n = min n 255
+abbrev pub emit_of_text : Text → Option Emit
+emit_of_text text = cond (bytes_eq text (codes "stream")) (Some Stream)
+    (cond (bytes_eq text (codes "recon")) (Some Recon) None)
 
-abbrev pub settings_from : List ℕ → Option Settings
-settings_from (width ∷ height ∷ qp ∷ levels ∷ group ∷ effort ∷ []) = Some (record {
-  width = width;
-  height = height;
-  qp = byte_value qp;
-  levels = byte_value levels;
-  group = byte_value group;
-  workers = 1;
-  effort = byte_value effort;
-  segment = 4;
-  emit = Stream;
-  synth = None;
-})
-settings_from _ = None
+abbrev pub emit_in : List Row → Option Emit
+emit_in rows = option_and_then emit_of_text (first_of (codes "emit") rows)
 
-abbrev pub settings_of_values : Option (List ℕ) → Option Settings
-settings_of_values None = None
-settings_of_values (Some values) = settings_from values
+-- the pictures of a generator count only where there is one
+abbrev pub synth_in : List Row → Option SynthSpec
+synth_in rows = option_map (λ seed. record {
+  seed = seed;
+  pictures = whole_in rows (codes "pictures");
+}) (number_in rows (codes "synth"))
 
-abbrev pub settings_of_six :
-    Option ℕ → Option ℕ → Option ℕ → Option ℕ → Option ℕ → Option ℕ → Option Settings
-settings_of_six width height qp levels group effort = settings_of_values
-    (value_then width (value_then height (value_then qp (value_then levels (value_then group
-    (value_then effort (Some [])))))))
+abbrev pub settings_with : List Row → Emit → Settings
+settings_with rows emit = record {
+  width = whole_in rows (codes "width");
+  height = whole_in rows (codes "height");
+  qp = byte_in rows (codes "qp");
+  levels = byte_in rows (codes "levels");
+  group = byte_in rows (codes "group");
+  workers = byte_in rows (codes "workers");
+  effort = byte_in rows (codes "effort");
+  segment = byte_in rows (codes "segment");
+  emit = emit;
+  synth = synth_in rows;
+}
 
--- the settings that the words ask for; none where they are no such command line
-abbrev pub settings_of : List (List ℕ) → Option Settings
-settings_of words = settings_of_values (values_of options words)
+-- the settings of these rows; none where `--emit` has another value than its two
+abbrev pub settings_in : List Row → Option Settings
+settings_in rows = option_map (settings_with rows) (emit_in rows)
+
+-- the settings that the words ask for; none where they are no command line of this program
+abbrev pub settings_of : List Text → Option Settings
+settings_of words = cond (is_taken words) (settings_in (rows_of_words words)) None
 
 -- ---- refusals
 
@@ -106,23 +100,28 @@ is_read (Some synth) = false
 abbrev pub is_accepted : Settings → Bool
 is_accepted s = is_built s && nat_eq s.workers 1 && is_stream s.emit && is_read s.synth
 
-abbrev pub refusal_by : Option ConfigError → Settings → Option WordsError
-refusal_by (Some error) settings = Some (Config error)
-refusal_by None settings = cond (is_accepted settings) None (Some NotBuilt)
+-- why words are refused: they are no command line of this program, or the settings that they ask
+-- for have this fault, or aren't built yet
+pub data Refusal : Type 0 where
+  no_command_line : Refusal
+  faulty : ConfigError → Refusal
+  not_built : Refusal
 
-abbrev pub refusal_of_settings : Option Settings → Option WordsError
-refusal_of_settings None = Some Parse
+abbrev pub refusal_by : Option ConfigError → Settings → Option Refusal
+refusal_by (Some error) settings = Some (faulty error)
+refusal_by None settings = cond (is_accepted settings) None (Some not_built)
+
+abbrev pub refusal_of_settings : Option Settings → Option Refusal
+refusal_of_settings None = Some no_command_line
 refusal_of_settings (Some settings) = refusal_by (fault_of settings) settings
 
--- why the words are refused: they are no such command line, or the settings have a fault, or they
--- aren't built yet
-abbrev pub refusal : List (List ℕ) → Option WordsError
+abbrev pub refusal : List Text → Option Refusal
 refusal words = refusal_of_settings (settings_of words)
 
-abbrev pub IsRefused : List (List ℕ) → Type 0
+abbrev pub IsRefused : List Text → Type 0
 IsRefused words = IsSome (refusal words)
 
 -- the words are accepted, and ask for these settings
-pub record AsksFor (words : List (List ℕ)) (cfg : Settings) : Type 0 where
+pub record AsksFor (words : List Text) (cfg : Settings) : Type 0 where
   pub asked : settings_of words ≡ Some cfg
   pub accepted : refusal words ≡ None

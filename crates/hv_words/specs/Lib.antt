@@ -1,1 +1,4 @@
+pub mod Answers
+pub mod Command
 pub mod CommandLine
+pub mod Texts

@@ -1,6 +1,9 @@
 //! The words of the command line: the settings that they ask for, or why they are refused.
 #![tactic(auto)]
 
+mod command;
+mod refusal;
 mod words;
 
-pub use words::{WordsError, config_of_words};
+pub use refusal::{WordsError, fault_text};
+pub use words::config_of_words;

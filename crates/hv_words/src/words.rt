@@ -1,31 +1,26 @@
 //! The words of the command line.
 
-ghost use Rattle.std.specs.Prelude.{◌≡◌, ◌+◌, ◌<◌, [], length, min, Some, None, IfOk, IfErr, slice_index_or};
-ghost use Rattle.hv_words.specs.CommandLine.{AsksFor, refusal, is_accepted, settings_of, number_of_word, option_value, settings_of_six, refusal_of_settings};
+ghost use Rattle.std.specs.Prelude.{◌≡◌, ⊤, map, Some, None, IfOk, IfErr};
+ghost use Rattle.clap.specs.Words.{Row, found_of, rows_of};
+ghost use Rattle.hv_words.specs.CommandLine.{AsksFor, refusal, is_accepted, settings_of, settings_in, emit_in, emit_of_text, synth_in, number_in, whole_in, byte_in, named, refusal_of_settings};
+ghost use Rattle.hv_words.specs.Answers.{Answers, HasLine, Rejects};
 
-use hv_types::{Config, ConfigError, Emit, Settings, Words};
+use crate::command::{PROGRAM_NAME, encoder_command};
+use crate::refusal::{WordsError, refused};
+use clap::error::ErrorKind;
+use clap::{ArgMatches, Command};
+use hv_types::{Config, Emit, Settings, SynthSpec, Words};
+use std::alloc::{AllocError, Global};
 
-/// Why the words of a command line are refused.
-#[derive(Clone, Copy, Debug, PartialEq, Eq)]
-pub enum WordsError {
-    /// The words are no command line of this program.
-    Parse,
-    /// The settings that they ask for have this fault.
-    Config { error: ConfigError },
-    /// The settings have no fault, and aren't built yet.
-    NotBuilt,
-}
-
-/// The settings that the words ask for, tested. The words stand in one order: `--width`,
-/// `--height`, `--qp`, `--levels`, `--group` and `--effort`, each before its value, which is a
-/// number of one to ten digits below 2^32. A value of the last four above 255 stands as 255.
-pub fn config_of_words(words: &Words) -> Result<Config, WordsError>
+/// The settings that the words ask for, tested.
+pub fn config_of_words(alloc: Global, words: &Words) -> Result<Config, WordsError>
     ensures ok { IfOk result (λ config. AsksFor words.now config) }
-    ensures err { IfErr result (λ error. refusal words.now ≡ Some error) }
+    ensures err { IfErr result (Answers (refusal words.now)) }
+    ensures text { IfErr result HasLine }
 {
-    match settings_of_words(words) {
-        Some(settings) => checked(settings),
-        None => Err(WordsError::Parse),
+    match settings_of_words(alloc, words) {
+        Ok(settings) => checked(settings),
+        Err(error) => Err(error),
     }
 }
 
@@ -33,7 +28,8 @@ pub fn config_of_words(words: &Words) -> Result<Config, WordsError>
 fn checked(settings: Settings) -> Result<Config, WordsError>
     ensures ok { IfOk result (λ config.
         (config ≡ settings) × (refusal_of_settings (Some settings) ≡ None)) }
-    ensures err { IfErr result (λ error. refusal_of_settings (Some settings) ≡ Some error) }
+    ensures err { IfErr result (Answers (refusal_of_settings (Some settings))) }
+    ensures text { IfErr result HasLine }
 {
     match Config::checked(settings) {
         Ok(config) if is_built(&settings) => Ok(config),
@@ -53,87 +49,115 @@ fn is_built(settings: &Settings) -> bool
         && settings.synth.is_none()
 }
 
-/// The settings that the words ask for, or `None` where they are no command line.
-fn settings_of_words(words: &Words) -> Option<Settings>
-    ensures { result ≡ settings_of words.now }
+/// The settings that the words ask for, if they are those of the command.
+fn settings_of_words(alloc: Global, words: &Words) -> Result<Settings, WordsError>
+    ensures ok { IfOk result (λ settings. settings_of words.now ≡ Some settings) }
+    ensures err { IfErr result (Rejects (settings_of words.now ≡ None)) }
+    ensures text { IfErr result HasLine }
 {
-    if words.count() != 12 {
-        return None;
+    let texts = texts_of_words(alloc, words)?;
+    let mut command = encoder_command(alloc)?;
+    match command.try_get_matches_from_mut(texts.as_slice()) {
+        Ok(matches) => match settings_of_matches(&matches) {
+            Some(settings) => Ok(settings),
+            None => Err(emit_refused(alloc, &mut command, matches.get_str("emit").unwrap_or(""))),
+        },
+        Err(error) => Err(refused(alloc, &error)),
     }
-    settings_of_values(
-        value_behind(words, 0, "--width"),
-        value_behind(words, 2, "--height"),
-        value_behind(words, 4, "--qp"),
-        value_behind(words, 6, "--levels"),
-        value_behind(words, 8, "--group"),
-        value_behind(words, 10, "--effort"),
-    )
 }
 
-/// The settings with these values, where all are there.
-fn settings_of_values(
-    width: Option<u32>,
-    height: Option<u32>,
-    qp: Option<u32>,
-    levels: Option<u32>,
-    group: Option<u32>,
-    effort: Option<u32>,
-) -> Option<Settings>
-    ensures { result ≡ settings_of_six width height qp levels group effort }
+/// The program's name and the words.
+fn texts_of_words(alloc: Global, words: &Words) -> Result<Vec<&str>, AllocError>
+    ensures { IfOk result (λ texts. map (λ s. s.now) texts.items ≡ named words.now) }
+{
+    let mut texts = Vec::new(alloc);
+    texts.push(PROGRAM_NAME)?;
+    for i in 0..words.count() {
+        texts.push(words.word(i))?;
+    }
+    Ok(texts)
+}
+
+/// The settings that matches of the command ask for, or `None` where `--emit` has another value
+/// than its two.
+fn settings_of_matches(matches: &ArgMatches<'_>) -> Option<Settings>
+    ensures { result ≡ settings_in (rows_of (found_of matches.now)) }
 {
     Some(Settings {
-        width: width?,
-        height: height?,
-        qp: byte(qp?),
-        levels: byte(levels?),
-        group: byte(group?),
-        workers: 1,
-        effort: byte(effort?),
-        segment: 4,
-        emit: Emit::Stream,
-        synth: None,
+        width: whole(matches, "width"),
+        height: whole(matches, "height"),
+        qp: byte(matches, "qp"),
+        levels: byte(matches, "levels"),
+        group: byte(matches, "group"),
+        workers: byte(matches, "workers"),
+        effort: byte(matches, "effort"),
+        segment: byte(matches, "segment"),
+        emit: emit(matches)?,
+        synth: synth(matches),
     })
 }
 
-/// A value above 255 stands as 255.
-fn byte(value: u32) -> u8
-    ensures { result ≡ min value 255 }
+/// The number of an option, where it has one.
+fn number(matches: &ArgMatches<'_>, name: &str) -> Option<u32>
+    ensures { result ≡ number_in (rows_of (found_of matches.now)) name.now }
 {
-    value.min(255) as u8
+    matches.get_one::<u32>(name)
 }
 
-/// The value of an option that stands at a place among the words.
-fn value_behind(words: &Words, at: u32, option: &str) -> Option<u32>
-    requires most { at < 12 }
-    requires there { at + 1 < length words.now }
-    ensures { result ≡ option_value option.now
-        (slice_index_or words.now at []) (slice_index_or words.now (at + 1) []) }
+/// The number of an option that has one.
+fn whole(matches: &ArgMatches<'_>, name: &str) -> u32
+    ensures { result ≡ whole_in (rows_of (found_of matches.now)) name.now }
 {
-    if words.word(at) == option {
-        number(words.word(at + 1))
+    number(matches, name).unwrap_or(0)
+}
+
+/// The number of an option that has one, where a value above 255 stands as 255.
+fn byte(matches: &ArgMatches<'_>, name: &str) -> u8
+    ensures { result ≡ byte_in (rows_of (found_of matches.now)) name.now }
+{
+    whole(matches, name).min(255) as u8
+}
+
+/// What is written, if it is one of the two.
+fn emit(matches: &ArgMatches<'_>) -> Option<Emit>
+    ensures { result ≡ emit_in (rows_of (found_of matches.now)) }
+{
+    emit_of_text(matches.get_str("emit")?)
+}
+
+/// The value of `--emit` with this text.
+fn emit_of_text(text: &str) -> Option<Emit>
+    ensures { result ≡ emit_of_text text.now }
+{
+    if text == "stream" {
+        Some(Emit::Stream)
+    } else if text == "recon" {
+        Some(Emit::Recon)
     } else {
         None
     }
 }
 
-/// The number of one to ten decimal digits, where it is below 2^32.
-fn number(word: &str) -> Option<u32>
-    ensures { result ≡ number_of_word word.now }
+/// The generator, if one is asked for.
+fn synth(matches: &ArgMatches<'_>) -> Option<SynthSpec>
+    ensures { result ≡ synth_in (rows_of (found_of matches.now)) }
 {
-    let digits = word.as_bytes();
-    if digits.is_empty() || digits.len() > 10 {
-        return None;
-    }
-    let mut value = 0u64;
-    for digit in digits {
-        if !digit.is_ascii_digit() {
-            return None;
-        }
-        value = value * 10 + u64::from(*digit - b'0');
-    }
-    if value < 1 << 32 {
-        Some(value as u32)
-    } else {
-        None
+    Some(SynthSpec {
+        seed: number(matches, "synth")?,
+        pictures: whole(matches, "pictures"),
+    })
+}
+
+/// What is said of another value of `--emit` than its two, in the form of `clap`.
+fn emit_refused(alloc: Global, command: &mut Command<'_>, value: &str) -> WordsError
+    ensures rejects { Rejects ⊤ result }
+    ensures text { HasLine result }
+{
+    let Ok(message) = format!(in alloc; "invalid value '{value}' for '--emit <VALUE>'\n  [possible values: stream, recon]") else {
+        return WordsError::NoMemory;
+    };
+    match command.error(ErrorKind::InvalidValue, message.as_str()) {
+        Ok(error) => refused(alloc, &error),
+        Err(_) => WordsError::NoMemory,
     }
 }

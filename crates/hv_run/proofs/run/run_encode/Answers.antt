@@ -1,9 +1,11 @@
 -- The clauses of a call that concluded, for the settings that the words ask for.
-use Rattle.std.proofs.Common.{refl}
+use Rattle.std.proofs.Common.{refl, sym, ◌∙◌}
 use Rattle.hv_model.proofs.RoundTripLemmas.{decoding_gives}
 use Rattle.hv_run.specs.declared.status.Status.TheVariants.{Ok, ReadFault, ShortPicture, WriteFault, NoMemory, TooLong, ReportFault}
+use Rattle.hv_serial.specs.Transfers.{drawn, put}
+use Rattle.hv_serial.proofs.ProgressLemmas.{start_no_memory}
 use Rattle.hv_words.proofs.AcceptanceLemmas.{accepted_built, accepted_emit}
-use Rattle.hv_run.proofs.ConclusionLemmas.{concluded, words_never, whole_case, groups_case, line_case, ok_line, part_of_line, complete_case}
+use Rattle.hv_run.proofs.ConclusionLemmas.{concluded, refused_so, not_refused, refusal_told, no_memory_told, words_never, whole_case, groups_case, line_case, ok_line, part_of_line, complete_case}
 use Rattle.hv_run.proofs.run.run_encode.Goals as goal
 
 pub encode_and_report-requires-clause-built : goal.encode_and_report-requires-clause-built
@@ -97,3 +99,34 @@ returns-in-Ok-clause-complete g c cfg bytes a told no_read no_write no_report =
     complete_case cfg (accepted_built _ cfg a) _ _ _ _
     (concluded _ cfg _ _ _ _ _ c.encode_and_report.result a c.in-Ok.ensures.ok c.encode_and_report.ensures refl)
     bytes told no_read no_write no_report
+
+-- ---- words that give no settings
+
+pub returns-then-is_want_of_memory-clause-decoded : goal.returns-then-is_want_of_memory-clause-decoded
+returns-then-is_want_of_memory-clause-decoded g c cfg v a = decoding_gives cfg v (accepted_built _ cfg a)
+
+pub returns-then-is_want_of_memory-clause-some_written : goal.returns-then-is_want_of_memory-clause-some_written
+returns-then-is_want_of_memory-clause-some_written g c cfg bytes left a told told_left is =
+    (start_no_memory cfg (accepted_built _ cfg a) (accepted_emit _ cfg a)
+    (drawn g.S.Source.left g.S.Source.faults c.args.source.now c.args.source.now) (put g.K.Sink.written g.K.Sink.faults c.args.out.now c.args.out.now) refl).wrote
+    bytes left told told_left
+
+pub returns-then-is_want_of_memory-clause-other_report : goal.returns-then-is_want_of_memory-clause-other_report
+returns-then-is_want_of_memory-clause-other_report g c line is =
+    no_memory_told _ c.in-Err.error line (sym c.is_want_of_memory.ensures ∙ c.if-is_want_of_memory.true) is c.report_words.ensures
+
+pub returns-clause-decoded : goal.returns-clause-decoded
+returns-clause-decoded g c cfg v a = decoding_gives cfg v (accepted_built _ cfg a)
+
+pub returns-clause-words_only : goal.returns-clause-words_only
+returns-clause-words_only g c is =
+    refused_so _ c.in-Err.error c.in-Err.ensures.err (sym c.is_want_of_memory.ensures ∙ c.if-is_want_of_memory.false)
+
+pub returns-clause-words_report : goal.returns-clause-words_report
+returns-clause-words_report g c why found is =
+    refusal_told _ why _ c.in-Err.error found c.in-Err.ensures.err c.in-Err.ensures.text (sym c.is_want_of_memory.ensures ∙ c.if-is_want_of_memory.false)
+    c.report_words.ensures
+
+pub returns-clause-complete : goal.returns-clause-complete
+returns-clause-complete g c cfg bytes a told no_read no_write no_report =
+    absurd (not_refused _ cfg c.in-Err.error a c.in-Err.ensures.err (sym c.is_want_of_memory.ensures ∙ c.if-is_want_of_memory.false))

@@ -1,11 +1,11 @@
-use Rattle.std.proofs.Common.{sym, ◌∙◌, arith, subst, ◌+◌, ◌*◌}
-use Rattle.hv_words.proofs.DecimalLemmas.{DigitsRead, next_digit, times_ten}
+-- The number is that of the text.
+use Rattle.std.specs.Str.Parse.{ParsesUnsigned, ExplainsUnsignedError, HasUnsignedDigitsIfOk}
+use Rattle.clap.specs.Words.{found_of}
+use Rattle.hv_words.proofs.CommandLemmas.{number_in_rows}
 use Rattle.hv_words.proofs.words.number.Goals as goal
 
-pub overflow_mul-value : goal.overflow_mul-value
-overflow_mul-value c = omega (arith, times_ten _ _ _ c.loop-digit.invariant c.loop-digit-test.true)
-
-pub loop-digit-preserved : goal.loop-digit-preserved
-loop-digit-preserved c = subst (λ d. DigitsRead (c.loop-digit.digit-index + 1) (c.loop-digit.value * 10 + d) c.as_bytes-digits.result.now)
-    (sym c.from.ensures)
-    (next_digit c.loop-digit.digit-index c.loop-digit.value c.as_bytes-digits.result.now c.loop-digit.invariant c.loop-digit-test.true (sym c.is_ascii_digit.ensures.value ∙ c.if-not-is_ascii_digit.false))
+pub returns : goal.returns
+returns c =
+    number_in_rows (λ bs r. ParsesUnsigned 32 10 bs r × ExplainsUnsignedError 10 bs r × HasUnsignedDigitsIfOk bs r)
+    (found_of c.args.matches.now) c.args.name.now c.get_one.result (λ t r g. g.0)
+    c.get_one.ensures.none c.get_one.ensures.value

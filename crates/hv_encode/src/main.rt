@@ -8,27 +8,25 @@ mod standard_output;
 #[cfg(test)]
 mod tests;
 
-use crate::arguments::words_behind_name;
+use crate::arguments::{NO_ARGUMENTS, without_arguments, words_behind_name};
 use crate::exit::encode_to_exit;
 use crate::standard_output::StandardOutput;
 use hv_types::{StdSink, StdSource};
 use std::env;
 use std::process::ExitCode;
 
-/// The exit code where the arguments can't be read or kept, which no status has.
-const NO_ARGUMENTS: u8 = 1;
-
 fn main(rt: HostRuntime) -> ExitCode {
     let alloc = rt.alloc();
-    let Ok(arguments) = env::args(&rt) else {
-        return ExitCode::from(NO_ARGUMENTS);
+    let mut report = StdSink::new(rt.stderr());
+    let arguments = match env::args(&rt) {
+        Ok(arguments) => arguments,
+        Err(error) => return ExitCode::from(without_arguments(&mut report, error.kind())),
     };
     let Some(words) = words_behind_name(alloc, arguments) else {
         return ExitCode::from(NO_ARGUMENTS);
     };
     let mut source = StdSource::new(rt.stdin());
     let mut out = StandardOutput::new(rt.stdout(), &rt);
-    let mut report = StdSink::new(rt.stderr());
     let code = encode_to_exit(&rt, alloc, &words, &mut source, &mut out, &mut report);
     ExitCode::from(code)
 }

@@ -194,7 +194,7 @@ fn words_that_are_refused(rt: HostRuntime) -> Result<(), Fail> {
         ("", "error: the following required arguments were not provided:\n"),
         ("--help", "Encodes raw video"),
         ("--width 64 --height 64 --speed 0", "error: unexpected argument '--speed' found\n"),
-        ("--width 64 --height 64 --emit video", "error: invalid value 'video' for '--emit <VALUE>'\n"),
+        ("--width 64 --height 64 --emit video", "error: invalid value 'video' for '--emit <"),
         ("--workers 17 --width 64 --height 64", "value out of range\n"),
         ("--width 65 --height 64 --qp 26 --levels 0 --group 1 --effort 0", "odd size\n"),
         ("--width 64 --height 2178 --qp 26 --levels 0 --group 1 --effort 0", "size out of range\n"),

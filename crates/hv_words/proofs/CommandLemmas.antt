@@ -1,5 +1,5 @@
 -- The command of `clap` is the one of the definition, and what its matches say is read by it.
-use Rattle.std.proofs.Common.{◌≡◌, ℕ, ◌≤◌, ◌<◌, Bool, true, false, cond, List, Option, Some, None, refl, sym, ap, ap₂, ◌∙◌, arith}
+use Rattle.std.proofs.Common.{◌≡◌, ℕ, Bool, true, false, cond, List, Option, Some, None, refl, ap, ap₂, ◌∙◌, arith}
 use Rattle.std.specs.Prelude.{Result, Ok, Err, codes, option_and_then}
 use Rattle.std.specs.Str.Parse.{ParsesUnsigned, digits_value, without_leading_plus}
 use Rattle.clap.specs.Words.{AddsArg, App, ReadsOne, Rule, Text, app_of, first_value, one_text, rule_of, rows_of, with_rule}

@@ -1,5 +1,5 @@
 -- What the matches or the error of `clap` say of the words, by its definition of a simple command.
-use Rattle.std.proofs.Common.{◌≡◌, ◌≢◌, ℕ, ◌+◌, Bool, true, false, cond, List, [], ◌∷◌, ◌++◌, map, take, add-one, Option, Some, None, refl, sym, ap, ap₂, subst, ◌∙◌, inl, inr}
+use Rattle.std.proofs.Common.{◌≡◌, ◌≢◌, ℕ, ◌+◌, Bool, true, false, cond, List, [], ◌∷◌, ◌++◌, map, take, add-one, Option, Some, None, refl, sym, ap, ap₂, ◌∙◌, inl, inr}
 use Rattle.std.specs.Prelude.{◌⊎◌, slice_get}
 use Rattle.std.specs.Borrow.{Bor}
 use Rattle.std.proofs.Math.Seq.{take-suc}
@@ -16,7 +16,7 @@ use Rattle.hv_words.specs.declared.refusal.WordsError.{WordsError}
 use Rattle.hv_words.specs.declared.refusal.WordsError.TheVariants.{Parse, Config, NotBuilt, NoMemory}
 use Rattle.hv_words.specs.Answers.{Rejects}
 use Rattle.hv_words.specs.Command.{command}
-use Rattle.hv_words.specs.CommandLine.{is_empty, is_taken, named, rows_of_words, settings_in, settings_of}
+use Rattle.hv_words.specs.CommandLine.{is_empty, named, rows_of_words, settings_in, settings_of}
 
 -- one word more is taken of those behind a first one
 pub one_word_more : (first : Text) (words : List Text) (i : ℕ) (texts new : List (Bor Text)) (word : Bor Text) → map (λ s. s.now) texts ≡ first ∷ take i words →

@@ -31,17 +31,17 @@ all_options : settings_of
     ∷ codes "--segment=300" ∷ codes "--effort" ∷ codes "+1" ∷ codes "--workers" ∷ codes "002"
     ∷ codes "--group" ∷ codes "255" ∷ codes "--levels" ∷ codes "0" ∷ codes "--qp" ∷ codes "51"
     ∷ codes "--height" ∷ codes "50" ∷ codes "--width" ∷ codes "66" ∷ []) ≡ Some (record {
-  width = 66;
-  height = 50;
-  qp = 51;
-  levels = 0;
-  group = 255;
-  workers = 2;
-  effort = 1;
-  segment = 255;
-  emit = Recon;
-  synth = Some (record { seed = 4294967295; pictures = 7 });
-})
+      width = 66;
+      height = 50;
+      qp = 51;
+      levels = 0;
+      group = 255;
+      workers = 2;
+      effort = 1;
+      segment = 255;
+      emit = Recon;
+      synth = Some (record { seed = 4294967295; pictures = 7 });
+    })
 unfolding clap_on_literals
 all_options = refl
 

@@ -1,5 +1,5 @@
 -- The words of the command line: the settings that they ask for, and when they are refused.
-use Rattle.std.specs.Prelude.{◌≡◌, ℕ, min, Bool, true, false, cond, nat_eq, ◌&&◌, ◌||◌, ⊤, List, [], ◌∷◌, Option, Some, None, IsSome, codes, option_map, option_and_then, unwrap_or}
+use Rattle.std.specs.Prelude.{◌≡◌, ℕ, min, Bool, true, false, cond, nat_eq, ◌&&◌, List, [], ◌∷◌, Option, Some, None, IsSome, codes, option_map, option_and_then, unwrap_or}
 use Rattle.std.specs.Str.{bytes_eq}
 use Rattle.std.specs.Str.Parse.{digits_value, without_leading_plus}
 use Rattle.clap.specs.Words.{Kinds, Row, Text, fault_of as clap_fault_of, first_of, matches_of, one_of}

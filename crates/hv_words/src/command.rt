@@ -10,23 +10,55 @@ use std::alloc::{AllocError, Global};
 /// The name that stands before the words, and in the texts for users.
 pub(crate) const PROGRAM_NAME: &str = "hv_encode";
 
+// ---- the texts for users
+
+const ABOUT: &str = "Encodes raw video, 8-bit 4:2:0, from standard input to an H.265 byte stream \
+    on standard output";
+
+const AFTER_HELP: &str =
+    "Built so far: --group 1 --effort 0, with one worker, no generator, and the \
+    stream as output. Other settings are answered with 'not built'.";
+
+const WIDTH: &str = "Width of a picture in luma samples: even, 8 to 4096";
+
+const HEIGHT: &str = "Height of a picture in luma samples: even, 8 to 2176";
+
+const QP: &str = "Quantiser, 0 to 51: a higher one gives fewer bytes and a coarser picture";
+
+const LEVELS: &str = "How often the span between two anchor pictures is halved, 0 to 3";
+
+const GROUP: &str = "Pictures of a group, which is decoded without the others, 1 to 64";
+
+const WORKERS: &str = "Threads that encode, 1 to 16";
+
+const EFFORT: &str = "How much is tried for each block, 0 (nothing) to 2 (most)";
+
+const SEGMENT: &str = "Blocks of 64x64 that a thread encodes at a stretch, 1 to 64";
+
+const EMIT: &str = "What is written: stream, or recon for the pictures that a decoder shows, raw";
+
+const SYNTH: &str = "Encodes a generated video and reads no input: its seed, 0 to 4294967295";
+
+const PICTURES: &str = "Pictures of the generated video, 0 to 400000; unused without --synth";
+
 /// The command.
 pub(crate) fn encoder_command<'a>(alloc: Global) -> Result<Command<'a>, AllocError>
     ensures { IfOk result (λ c. app_of c ≡ command) }
 {
     Command::new(alloc, PROGRAM_NAME)
-        .about("Reads raw video (8-bit 4:2:0) from standard input and writes an H.265 byte stream")
-        .arg(required_number(alloc, "width", "Width of a picture in luma samples: even, 8 to 4096"))?
-        .arg(required_number(alloc, "height", "Height of a picture in luma samples: even, 8 to 2176"))?
-        .arg(number_or(alloc, "qp", "32", "Quantiser, 0 to 51: a higher one gives fewer bytes"))?
-        .arg(number_or(alloc, "levels", "3", "Levels of pictures between two anchors, 0 to 3"))?
-        .arg(number_or(alloc, "group", "16", "Pictures from one independent picture to the next, 1 to 64"))?
-        .arg(number_or(alloc, "workers", "1", "Threads that encode, 1 to 16"))?
-        .arg(number_or(alloc, "effort", "2", "How much is tried for each block, 0 to 2"))?
-        .arg(number_or(alloc, "segment", "4", "Blocks that a thread takes at once, 1 to 64"))?
-        .arg(any_or(alloc, "emit", "stream", "What is written: stream, or recon for the decoded pictures"))?
-        .arg(number_option(alloc, "synth", "Encodes a generated video and reads none: its seed, 0 to 4294967295"))?
-        .arg(number_or(alloc, "pictures", "60", "Pictures of a generated video, 0 to 400000; unused without --synth"))
+        .about(ABOUT)
+        .after_help(AFTER_HELP)
+        .arg(required_number(alloc, "width", WIDTH))?
+        .arg(required_number(alloc, "height", HEIGHT))?
+        .arg(number_or(alloc, "qp", "32", QP))?
+        .arg(number_or(alloc, "levels", "3", LEVELS))?
+        .arg(number_or(alloc, "group", "16", GROUP))?
+        .arg(number_or(alloc, "workers", "1", WORKERS))?
+        .arg(number_or(alloc, "effort", "2", EFFORT))?
+        .arg(number_or(alloc, "segment", "4", SEGMENT))?
+        .arg(any_or(alloc, "emit", "stream", EMIT))?
+        .arg(number_option(alloc, "synth", SYNTH))?
+        .arg(number_or(alloc, "pictures", "60", PICTURES))
 }
 
 /// An option of any value.

@@ -3,6 +3,8 @@
 
 mod command;
 mod refusal;
+#[cfg(test)]
+mod tests;
 mod words;
 
 pub use refusal::{WordsError, fault_text};

@@ -13,6 +13,17 @@ use hv_types::{Config, Emit, Settings, SynthSpec, Words};
 use std::alloc::{AllocError, Global};
 
 /// The settings that the words ask for, tested.
+///
+/// The words, without the program's name, are options with one value each, as `--qp 30` or
+/// `--qp=30`, each at most once and in any order. `--width` and `--height` must be there. Else the
+/// defaults are `--qp 32 --levels 3 --group 16 --workers 1 --effort 2 --segment 4 --emit stream`,
+/// no `--synth`, and `--pictures 60`, which says nothing without `--synth`. `--emit` is `stream` or
+/// `recon`, and the others are whole numbers below 2^32, of which a value above 255 for `--qp` to
+/// `--segment` stands as 255.
+///
+/// `Parse` comes just where `clap` refuses the words, also for `--help`, or `--emit` has another
+/// value; `Config` where the settings have a fault, and `NotBuilt` where they have none and aren't
+/// built yet. `NoMemory` may come at any time.
 pub fn config_of_words(alloc: Global, words: &Words) -> Result<Config, WordsError>
     ensures ok { IfOk result (λ config. AsksFor words.now config) }
     ensures err { IfErr result (Answers (refusal words.now)) }
@@ -49,7 +60,8 @@ fn is_built(settings: &Settings) -> bool
         && settings.synth.is_none()
 }
 
-/// The settings that the words ask for, if they are those of the command.
+/// The settings that the words ask for, if they are those of the command. A value of `--emit` that
+/// is none of its two is the one thing that is refused behind `clap`.
 fn settings_of_words(alloc: Global, words: &Words) -> Result<Settings, WordsError>
     ensures ok { IfOk result (λ settings. settings_of words.now ≡ Some settings) }
     ensures err { IfErr result (Rejects (settings_of words.now ≡ None)) }
@@ -153,7 +165,9 @@ fn emit_refused(alloc: Global, command: &mut Command<'_>, value: &str) -> WordsE
     ensures rejects { Rejects ⊤ result }
     ensures text { HasLine result }
 {
-    let Ok(message) = format!(in alloc; "invalid value '{value}' for '--emit <VALUE>'\n  [possible values: stream, recon]") else {
+    let Ok(message) = format!(in alloc;
+        "invalid value '{value}' for '--emit <VALUE>'\n  [possible values: stream, recon]"
+    ) else {
         return WordsError::NoMemory;
     };
     match command.error(ErrorKind::InvalidValue, message.as_str()) {

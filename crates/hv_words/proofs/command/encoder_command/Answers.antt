@@ -1,5 +1,5 @@
 -- Each option is added with its rule.
-use Rattle.std.proofs.Common.{ap, ◌∙◌, ◌≡◌}
+use Rattle.std.proofs.Common.{ap, ◌∙◌}
 use Rattle.std.proofs.lemmas.Result.{IfOk-weaker}
 use Rattle.clap.specs.Simple.{app_of_fields}
 use Rattle.hv_words.proofs.CommandLemmas.{added}
@@ -7,7 +7,7 @@ use Rattle.hv_words.proofs.command.encoder_command.Goals as goal
 
 pub returns : goal.returns
 returns c =
-    let start = ap app_of_fields c.about.ensures ∙ c.new.ensures.app in
+    let start = ap app_of_fields c.after_help.ensures ∙ ap app_of_fields c.about.ensures ∙ c.new.ensures.app in
     let width = added _ _ _ _ _ start c.required_number.ensures.rule c.required_number.ensures.local c.in_ok-arg.ensures in
     let height = added _ _ _ _ _ width c.required_number-2.ensures.rule c.required_number-2.ensures.local c.in_ok-arg-2.ensures in
     let qp = added _ _ _ _ _ height c.number_or.ensures.rule c.number_or.ensures.local c.in_ok-arg-3.ensures in

@@ -6,7 +6,7 @@ use Rattle.hv_lemmas.specs.Lists.{tabulate}
 use Rattle.hv_sample_model.specs.Blocks.{sum_of, total_of}
 use Rattle.hv_sample_model.specs.IntraPrediction.{predicted}
 use Rattle.hv_sample_model.specs.InverseTransform.{residual}
-use Rattle.hv_unit_model.specs.Trees.{Intra, Inter, TransformUnit, Tree, Leaf, Split, Outside, no_levels, no_units}
+use Rattle.hv_unit_model.specs.Trees.{Motion, Intra, Inter, TransformUnit, Tree, Leaf, Split, Outside, no_levels, no_units}
 use Rattle.hv_unit_model.specs.Sites.{sites}
 use Rattle.hv_recon_model.specs.Reconstruction.{Component, Decoded, nothing_decoded, decoded_block, decoded_tree, decoded_trees}
 
@@ -52,7 +52,9 @@ chroma_of_four_units :
 unfolding decoded_tree decoded_block predicted residual tabulate sum_of total_of
 chroma_of_four_units = refl
 
-cr_of_four_units : option_map (λ d. samples_at ((0, 0) ∷ (7, 7) ∷ []) d.cr) four_units ≡ Some (Some 128 ∷ Some 128 ∷ [])
+cr_of_four_units :
+    option_map (λ d. samples_at ((0, 0) ∷ (7, 7) ∷ []) d.cr) four_units ≡
+    Some (Some 128 ∷ Some 128 ∷ [])
 unfolding decoded_tree decoded_block predicted residual tabulate sum_of total_of
 cr_of_four_units = refl
 
@@ -73,10 +75,12 @@ unfolding decoded_tree decoded_block predicted residual tabulate sum_of total_of
 quarters_of_64 = refl
 
 -- a unit that is predicted from another picture isn't built
+abbrev still : Motion
+still = record { ref_idx_l0 = 0; mvp_l0_flag = 0; MvdL0 = record { x = pos 0; y = pos 0 } }
+
 inter_unit :
     decoded_tree 32 0 0 0
-    (Leaf (Inter (record { ref_idx_l0 = 0; mvp_l0_flag = 0; MvdL0 = record { x = pos 0; y = pos 0 } }))
-    (no_units 0)) nothing_decoded ≡ None
+    (Leaf (Inter still) (no_units 0)) nothing_decoded ≡ None
 unfolding decoded_tree decoded_block no_units
 inter_unit = refl
 
@@ -96,7 +100,8 @@ second_block =
     Outside Outside Outside
 
 two_blocks :
-    option_map (λ d. samples_at ((55, 0) ∷ (56, 0) ∷ (63, 7) ∷ (64, 0) ∷ (71, 7) ∷ (72, 0) ∷ []) d.luma)
+    option_map (λ d. samples_at
+    ((55, 0) ∷ (56, 0) ∷ (63, 7) ∷ (64, 0) ∷ (71, 7) ∷ (72, 0) ∷ []) d.luma)
     (decoded_trees 32 (sites 72 8) (row_of_8 (leaf_8 1 (pos 3) (pos 0)) ∷ second_block ∷ [])
     nothing_decoded) ≡
     Some (Some 128 ∷ Some 138 ∷ Some 138 ∷ Some 138 ∷ Some 138 ∷ None ∷ [])

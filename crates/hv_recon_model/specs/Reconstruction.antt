@@ -1,6 +1,6 @@
--- The decoded picture before the in-loop filters (8.4, 8.6): every transform block of the picture in
--- decoding order is predicted from samples that were decoded before it, and its residual is added.
--- So far intra prediction alone.
+-- The decoded picture before the in-loop filters (8.4, 8.6): every transform block of the picture,
+-- in decoding order, is predicted from samples that were decoded before it, and its residual is
+-- added. So far intra prediction alone.
 use Rattle.std.specs.Prelude.{ℕ, zero, suc, ◌+◌, ◌-◌, ◌*◌, ◌/◌, ◌^◌, Bool, true, false, cond, nat_eq, nat_lt, nat_le, ◌&&◌, ◌||◌, List, [], ◌∷◌, ◌++◌, slice_index_or, Option, Some, None, option_and_then, option_map, ℤ, pos, ◌+ℤ◌}
 use Rattle.hv_lemmas.specs.Clipping.{clip1}
 use Rattle.hv_lemmas.specs.Lists.{tabulate}

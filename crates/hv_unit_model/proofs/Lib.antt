@@ -1,7 +1,10 @@
+pub mod BlankLemmas
+pub mod BlankSliceLemmas
 pub mod FlagLemmas
 pub mod GeometryLemmas
 pub mod ModeLemmas
 pub mod MotionLemmas
+pub mod NodeLemmas
 pub mod OffsetLemmas
 pub mod SignLemmas
 pub mod SquareLemmas

@@ -1,5 +1,6 @@
 pub mod BlankLemmas
 pub mod BlankSliceLemmas
+pub mod ContextLemmas
 pub mod FlagLemmas
 pub mod GeometryLemmas
 pub mod ModeLemmas

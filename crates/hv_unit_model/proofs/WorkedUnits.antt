@@ -113,6 +113,25 @@ extreme_differences :
 unfolding difference_of vector mvd_bins exp_golomb_bins bypass_of
 extreme_differences = refl
 
+difference_of_2_to_the_left :
+    difference_of (negsuc 1) (pos 1) ≡
+    bin MvdGreater0 0 true ∷ bin MvdGreater0 0 true ∷
+    bin MvdGreater1 0 true ∷ bin MvdGreater1 0 false ∷
+    bypass_of (false ∷ false ∷ true ∷ false ∷ [])
+unfolding difference_of vector mvd_bins exp_golomb_bins bypass_of
+difference_of_2_to_the_left = refl
+
+extreme_differences_back :
+    difference_of (negsuc 32767) (pos 32767) ≡
+    bin MvdGreater0 0 true ∷ bin MvdGreater0 0 true ∷
+    bin MvdGreater1 0 true ∷ bin MvdGreater1 0 true ∷
+    (bypass_of (replicate 14 true) ++ (bypass_of (false ∷ []) ++
+    (bypass_of (replicate 15 false) ++ (bypass_of (true ∷ []) ++
+    (bypass_of (replicate 13 true) ++ (bypass_of (false ∷ []) ++
+    (bypass_of (replicate 14 true) ++ bypass_of (false ∷ []))))))))
+unfolding difference_of vector mvd_bins exp_golomb_bins bypass_of
+extreme_differences_back = refl
+
 -- ---- the second of two references, and the second candidate
 
 second_reference :

@@ -3,6 +3,7 @@ use Rattle.std.specs.Prelude.{◌≡◌, ◌≢◌, ℕ, ◌+◌, ◌%◌, ◌^�
 use Rattle.hv_types.specs.declared.bins.SliceKind.{SliceKind}
 use Rattle.hv_plan.specs.declared.offsets.SaoParam.{SaoParam}
 use Rattle.hv_stream_model.specs.Scripts.{Reads}
+use Rattle.hv_residual_model.specs.ResidualLaws.{AreAskedIn}
 use Rattle.hv_unit_model.specs.Trees.{Tree, CodingTreeUnit, greatest_size}
 use Rattle.hv_unit_model.specs.Sites.{Site, sites, address_of, column_of, row_of, squares}
 use Rattle.hv_unit_model.specs.EarlierUnits.{Square, Surroundings, squares_of}
@@ -37,6 +38,19 @@ SliceDataIsReadBack =
     AreValid slice_type references sites units →
     Reads (slice_segment_data slice_type references sites)
     (slice_bins slice_type references sites units) units
+
+-- ---- contexts (9.3.4.2): an index beyond its table would name a variable of the next
+
+abbrev pub OffsetsAskForVariablesThatAreThere : Type 0
+OffsetsAskForVariablesThatAreThere =
+    (slice_type : SliceKind) (site : Site) (offsets : SaoParam) →
+    AreAskedIn slice_type (sao_bins site offsets)
+
+abbrev pub NodesAskForVariablesThatAreThere : Type 0
+NodesAskForVariablesThatAreThere =
+    (s : Surroundings) (size address : ℕ) (earlier : List Square) (tree : Tree) →
+    IsValidNode s.slice_type s.references s.site size address tree →
+    AreAskedIn s.slice_type (bins_of_node s size address earlier tree)
 
 -- ---- places
 

@@ -1,6 +1,6 @@
 //! What is read of the bins of slice data is what was coded.
 
-ghost use Rattle.hv_unit_model.specs.UnitLaws.{OffsetsAreReadBack, NodesAreReadBack, CodingTreeUnitsAreRead, SliceDataIsReadBack, SitesAreThere, AddressesArePlaces, PlacesHaveAddresses, NodesAreSquares, NodesHaveTheirSquares};
+ghost use Rattle.hv_unit_model.specs.UnitLaws.{OffsetsAreReadBack, NodesAreReadBack, CodingTreeUnitsAreRead, SliceDataIsReadBack, OffsetsAskForVariablesThatAreThere, NodesAskForVariablesThatAreThere, SitesAreThere, AddressesArePlaces, PlacesHaveAddresses, NodesAreSquares, NodesHaveTheirSquares};
 
 /// At each coding tree block the script of sample adaptive offsets (7.3.8.3) reads the offsets from
 /// their bins, where offsets are in their ranges and Cb and Cr have type and class in common.
@@ -52,4 +52,16 @@ pub fn nodes_are_squares()
 /// the place of a square in the list of those coded earlier.
 pub fn nodes_have_their_squares()
     ensures { NodesHaveTheirSquares }
+{}
+
+/// Every context of the bins of sample adaptive offsets has a variable in slices of each kind
+/// (9.3.4.2).
+pub fn offsets_ask_for_variables_that_are_there()
+    ensures { OffsetsAskForVariablesThatAreThere }
+{}
+
+/// Every context of the bins of a tree that may be coded at a node has a variable in slices of its
+/// kind (9.3.4.2).
+pub fn nodes_ask_for_variables_that_are_there()
+    ensures { NodesAskForVariablesThatAreThere }
 {}

@@ -2,11 +2,14 @@ pub mod BlankLemmas
 pub mod BlankSliceLemmas
 pub mod ContextLemmas
 pub mod FlagLemmas
+pub mod GivenLemmas
 pub mod GeometryLemmas
 pub mod ModeLemmas
 pub mod MotionLemmas
 pub mod NodeLemmas
 pub mod OffsetLemmas
+pub mod ReadOffsetLemmas
+pub mod ReadUnitLemmas
 pub mod SignLemmas
 pub mod SquareLemmas
 pub mod TransformLemmas

@@ -51,7 +51,7 @@ nothing_there : (log2 : ℕ) (levels : List ℤ) → HaveLevels log2 levels →
 unfolding no_levels
 nothing_there log2 levels valid none = rw (sym valid.whole) (all_zero levels none)
 
-levels_of_nothing : (log2 : ℕ) → HaveLevels log2 (no_levels log2)
+pub levels_of_nothing : (log2 : ℕ) → HaveLevels log2 (no_levels log2)
 unfolding no_levels
 levels_of_nothing log2 = record {
   whole = length-replicate _ _;

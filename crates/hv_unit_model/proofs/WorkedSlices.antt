@@ -98,6 +98,20 @@ bins_of_split_twice :
 unfolding split_twice sites off flat unit by_context flat_from flat_below sao_bins bins_of_node predicted_bins luma_mode_bins candModeList transform_tree_bins transform_unit_bins truncated_unary_bins no_units no_levels look_picture column_of row_of address_of crosses is_outside
 bins_of_split_twice = refl
 
+-- the third quarter is split again: the fourth lies at its right
+split_below : Tree
+split_below =
+    SplitTree (flat 2) (flat 2) (SplitTree (flat 1) (flat 1) (flat 1) (flat 1)) (flat 2)
+
+bins_of_split_below :
+    slice_bins I 0 (sites 64 64) (unit split_below true ∷ []) ≡
+    by_context SaoType 0 false ∷ by_context SaoType 0 false ∷
+    by_context Split 0 true ∷ (flat_below 0 ++ (flat_below 0 ++ (by_context Split 0 true ∷
+    (flat_below 0 ++ (flat_below 0 ++ (flat_below 0 ++ (flat_below 0 ++
+    (flat_below 1 ++ terminate_bin true ∷ []))))))))
+unfolding split_below sites off flat unit by_context flat_from flat_below sao_bins bins_of_node predicted_bins luma_mode_bins candModeList transform_tree_bins transform_unit_bins truncated_unary_bins no_units no_levels look_picture column_of row_of address_of crosses is_outside
+bins_of_split_below = refl
+
 -- ---- what may be coded
 
 -- the greatest and the least of each kind

@@ -170,6 +170,23 @@ bins_of_cb_in_one_quarter :
 unfolding still motion vector block one_level cb_in_one_quarter transform_tree_bins quarters_bins transform_unit_bins no_levels
 bins_of_cb_in_one_quarter = refl
 
+-- 64x64: a level of Cr in the last quarter alone
+cr_in_one_quarter : List TransformUnit
+cr_in_one_quarter =
+    no_unit 5 ∷ no_unit 5 ∷ no_unit 5 ∷
+    record { luma = no_levels 5; cb = no_levels 4; cr = one_level 255 } ∷ []
+
+bins_of_cr_in_one_quarter :
+    transform_tree_bins still 3 cr_in_one_quarter ≡
+    bin CbfChroma 0 false ∷ bin CbfChroma 0 true ∷
+    bin CbfChroma 1 false ∷ bin CbfLuma 0 false ∷
+    bin CbfChroma 1 false ∷ bin CbfLuma 0 false ∷
+    bin CbfChroma 1 false ∷ bin CbfLuma 0 false ∷
+    bin CbfChroma 1 true ∷ bin CbfLuma 0 false ∷
+    (residual_bins (block 4 false) (one_level 255) ++ [])
+unfolding still motion vector block one_level cr_in_one_quarter transform_tree_bins quarters_bins transform_unit_bins no_levels
+bins_of_cr_in_one_quarter = refl
+
 -- 64x64: a level of luma in the second quarter alone
 luma_in_one_quarter : List TransformUnit
 luma_in_one_quarter =

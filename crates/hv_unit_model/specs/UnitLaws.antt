@@ -1,8 +1,11 @@
 -- What is read of the bins of slice data is what was coded.
 use Rattle.std.specs.Prelude.{◌≡◌, ◌≢◌, ℕ, ◌+◌, ◌%◌, ◌^◌, ◌<◌, ◌≤◌, List, [], length}
 use Rattle.hv_types.specs.declared.bins.SliceKind.{SliceKind}
+use Rattle.hv_types.specs.declared.bins.SliceKind.TheVariants.{I, P}
+use Rattle.hv_types.specs.Bins.{Bin}
 use Rattle.hv_plan.specs.declared.offsets.SaoParam.{SaoParam}
 use Rattle.hv_stream_model.specs.Scripts.{Reads}
+use Rattle.hv_residual_model.specs.UnitBins.{UnitBin}
 use Rattle.hv_residual_model.specs.ResidualLaws.{AreAskedIn}
 use Rattle.hv_unit_model.specs.Trees.{Tree, CodingTreeUnit, greatest_size}
 use Rattle.hv_unit_model.specs.Sites.{Site, sites, address_of, column_of, row_of, squares}
@@ -38,6 +41,34 @@ SliceDataIsReadBack =
     AreValid slice_type references sites units →
     Reads (slice_segment_data slice_type references sites)
     (slice_bins slice_type references sites units) units
+
+-- ---- whatever answers: what is read may be coded there
+
+-- a P slice has one reference or two
+abbrev pub HasReferences : SliceKind → ℕ → Type 0
+HasReferences I references = Unit {0}
+HasReferences P references = (1 ≤ references) × (references ≤ 2)
+
+abbrev pub OffsetsThatAreReadMayBeCoded : Type 0
+OffsetsThatAreReadMayBeCoded =
+    (site : Site) (bins : List UnitBin) (offsets : SaoParam) →
+    Reads (sao site) bins offsets → AreOffsets offsets
+
+abbrev pub NodesThatAreReadMayBeCoded : Type 0
+NodesThatAreReadMayBeCoded =
+    (s : Surroundings) (size address : ℕ) (earlier : List Square) (bins : List UnitBin)
+    (tree : Tree) →
+    HasReferences s.slice_type s.references → SeesModes s.look → HaveModes earlier →
+    Reads (coding_quadtree s size address earlier) bins tree →
+    IsValidNode s.slice_type s.references s.site size address tree
+
+abbrev pub SliceDataThatIsReadMayBeCoded : Type 0
+SliceDataThatIsReadMayBeCoded =
+    (slice_type : SliceKind) (references : ℕ) (sites : List Site) (bins : List Bin)
+    (units : List CodingTreeUnit) →
+    HasReferences slice_type references →
+    Reads (slice_segment_data slice_type references sites) bins units →
+    AreValid slice_type references sites units
 
 -- ---- contexts (9.3.4.2): an index beyond its table would name a variable of the next
 

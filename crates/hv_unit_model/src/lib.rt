@@ -10,6 +10,7 @@ pub use blank_laws::blank_slices_agree;
 pub use unit_laws::{
     addresses_are_places, coding_tree_units_are_read, nodes_are_read_back, nodes_are_squares,
     nodes_ask_for_variables_that_are_there, nodes_have_their_squares, offsets_are_read_back,
-    offsets_ask_for_variables_that_are_there, places_have_addresses, sites_are_there,
+    offsets_ask_for_variables_that_are_there, places_have_addresses, read_nodes_may_be_coded,
+    read_offsets_may_be_coded, read_slice_data_may_be_coded, sites_are_there,
     slice_data_is_read_back,
 };

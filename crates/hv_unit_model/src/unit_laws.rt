@@ -1,6 +1,6 @@
 //! What is read of the bins of slice data is what was coded.
 
-ghost use Rattle.hv_unit_model.specs.UnitLaws.{OffsetsAreReadBack, NodesAreReadBack, CodingTreeUnitsAreRead, SliceDataIsReadBack, OffsetsAskForVariablesThatAreThere, NodesAskForVariablesThatAreThere, SitesAreThere, AddressesArePlaces, PlacesHaveAddresses, NodesAreSquares, NodesHaveTheirSquares};
+ghost use Rattle.hv_unit_model.specs.UnitLaws.{OffsetsAreReadBack, NodesAreReadBack, CodingTreeUnitsAreRead, SliceDataIsReadBack, OffsetsThatAreReadMayBeCoded, NodesThatAreReadMayBeCoded, SliceDataThatIsReadMayBeCoded, OffsetsAskForVariablesThatAreThere, NodesAskForVariablesThatAreThere, SitesAreThere, AddressesArePlaces, PlacesHaveAddresses, NodesAreSquares, NodesHaveTheirSquares};
 
 /// At each coding tree block the script of sample adaptive offsets (7.3.8.3) reads the offsets from
 /// their bins, where offsets are in their ranges and Cb and Cr have type and class in common.
@@ -25,6 +25,23 @@ pub fn coding_tree_units_are_read()
 /// units from their bins, where they may be coded there.
 pub fn slice_data_is_read_back()
     ensures { SliceDataIsReadBack }
+{}
+
+/// Whatever answers the questions of sample adaptive offsets (7.3.8.3): what is read may be coded.
+pub fn read_offsets_may_be_coded()
+    ensures { OffsetsThatAreReadMayBeCoded }
+{}
+
+/// Whatever answers the questions of a coding quadtree (7.3.8.4): the tree that is read may be coded
+/// at its node, in an I slice, or in a P slice of one or two references.
+pub fn read_nodes_may_be_coded()
+    ensures { NodesThatAreReadMayBeCoded }
+{}
+
+/// Whatever answers the questions of slice data (7.3.8.1): the coding tree units that are read are
+/// one for each block, and may be coded there.
+pub fn read_slice_data_may_be_coded()
+    ensures { SliceDataThatIsReadMayBeCoded }
 {}
 
 /// A picture of at least one luma sample a side has at least one coding tree block (6.5.1).

@@ -43,12 +43,14 @@ module _ (width height : ℕ) where
       ((j : ℕ) → IsBlank (length xs + j) (slice_index_or ys j Unavailable)) → AllBlank (xs ++ ys)
   unfolding AllBlank
   blank_then xs ys h k i = by_side (cases_lt i (length xs)) where
-    by_side : (i < length xs) ⊎ (length xs ≤ i) → IsBlank i (slice_index_or (xs ++ ys) i Unavailable)
+    by_side : (i < length xs) ⊎ (length xs ≤ i) →
+        IsBlank i (slice_index_or (xs ++ ys) i Unavailable)
     by_side (inl below) = rw (get_or_append_left xs ys Unavailable i below) (h i)
     by_side (inr from) =
         let e : length xs + (i - length xs) ≡ i = omega (arith, from) in
         rw (get_or-append_right xs ys (length xs) i Unavailable refl from)
-        (subst (λ n. IsBlank n (slice_index_or ys (i - length xs) Unavailable)) e (k (i - length xs)))
+        (subst (λ n. IsBlank n (slice_index_or ys (i - length xs) Unavailable)) e
+        (k (i - length xs)))
 
   -- so many squares that are alike, each where it stands
   pub blank_alike : (n at : ℕ) (square : Square) →
@@ -134,7 +136,8 @@ module _ (width height : ℕ) where
   seen_at list size column row blank few below across down index =
       let b : ℕ = address_of (column % 8) (row % 8) in
       let block : ℕ = row / 8 * blocks_over width + column / 8 in
-      let small : b < 64 = (address_of_place (column % 8) (row % 8) (omega arith) (omega arith)).2 in
+      let small : b < 64 = (address_of_place (column % 8) (row % 8) (omega arith) (omega arith)).2
+      in
       let at_block : (64 * block + b) / 64 ≡ block = omega (arith, small) in
       let at_place : (64 * block + b) % 64 ≡ b = omega (arith, small) in
       (blank (64 * block + b)).shallow size few
@@ -237,7 +240,8 @@ module _ (width height : ℕ) where
       let rr : ℕ = index / blocks_over width in
       seen_in (done ++ earlier) index size (8 * cc + (7 + column_of address))
       (8 * rr + (8 + row_of address)) blank lies.node.few
-      (λ right low. left_lies size address cc rr around_it (place.1) (place.2) columns lies.column lies.row right)
+      (λ right low. left_lies size address cc rr around_it (place.1) (place.2) columns lies.column
+      lies.row right)
 
   pub above_is_flat : (done earlier : List Square) (index size address : ℕ) →
       AllBlank (done ++ earlier) → LiesInside index size address →
@@ -252,7 +256,8 @@ module _ (width height : ℕ) where
       let rr : ℕ = index / blocks_over width in
       seen_in (done ++ earlier) index size (8 * cc + (8 + column_of address))
       (8 * rr + (7 + row_of address)) blank lies.node.few
-      (λ right low. above_lies size address cc rr around_it (place.1) (place.2) columns lies.column lies.row low)
+      (λ right low. above_lies size address cc rr around_it (place.1) (place.2) columns lies.column
+      lies.row low)
 
   -- all modes are DC
   dc_at : (test : Bool) (square : Square) → candIntraPredMode square ≡ dc →
@@ -277,13 +282,16 @@ module _ (width height : ℕ) where
       dc_in (done ++ earlier) index (8 * (index % blocks_over width) + column)
       (8 * (index / blocks_over width) + row) blank
 
-  pub dc_candidates : (done earlier : List Square) (index address : ℕ) → AllBlank (done ++ earlier) →
+  pub dc_candidates : (done earlier : List Square) (index address : ℕ) →
+      AllBlank (done ++ earlier) →
       candidates (in_picture I 0 (site width height index) done) address earlier ≡
       0 ∷ 1 ∷ 26 ∷ []
   unfolding candModeList
   dc_candidates done earlier index address blank =
-      let left : candIntraPredMode (left_of (in_picture I 0 (site width height index) done) address earlier) ≡ dc =
+      let left : candIntraPredMode (left_of (in_picture I 0 (site width height index) done) address
+      earlier) ≡ dc =
       all_dc done earlier index (7 + column_of address) (8 + row_of address) blank in
-      let above : candIntraPredMode (above_of (in_picture I 0 (site width height index) done) address earlier) ≡ dc =
+      let above : candIntraPredMode (above_of (in_picture I 0 (site width height index) done)
+      address earlier) ≡ dc =
       all_dc done earlier index (8 + column_of address) (7 + row_of address) blank in
       rw (left, dc_or_dc (nat_eq (row_of address) 0) _ above) refl

@@ -148,13 +148,16 @@ module _ (width height index : ℕ) (done : List Square) where
   unfolding IsValidNode bins_of_node predicted_bins
   unit_node size address earlier node parents behind inside fits =
       let lies = inside_of (suc size) address node fits in
-      let left = left_is_flat width height done earlier index (suc size) address behind.blank lies in
-      let above = above_is_flat width height done earlier index (suc size) address behind.blank lies in
+      let left = left_is_flat width height done earlier index (suc size) address behind.blank lies
+      in
+      let above = above_is_flat width height done earlier index (suc size) address behind.blank lies
+      in
       let few = node.few in
       record {
         valid = (inside, fits, omega arith, no_units_valid (suc size));
         same = leaf_bins_by size
-            (split_ctxInc (in_picture I 0 (site width height index) done) (suc size) address earlier)
+            (split_ctxInc (in_picture I 0 (site width height index) done) (suc size) address
+            earlier)
             (candidates (in_picture I 0 (site width height index) done) address earlier)
             (crosses (site width height index) (suc size) address) few fits
             (ap₂ (λ a b. a + b) left above)
@@ -197,13 +200,15 @@ module _ (width height index : ℕ) (done : List Square) where
       subst (λ at. IsPart size address at w h) place
       (record {
         node = child.node;
-        parents = λ greater above most. by_size greater most inner (cases_lt (suc size) greater) above;
+        parents = λ greater above most. by_size greater most inner (cases_lt (suc size) greater)
+            above;
         column = omega (arith, column, to_right);
         row = omega (arith, row, below);
       }) where
         by_size : (greater : ℕ) → greater ≤ 3 → k * squares size < squares (suc size) →
             (suc size < greater) ⊎ (greater ≤ suc size) → size < greater →
-            crosses (site width height index) greater (around greater (address + k * squares size)) ≡
+            crosses (site width height index) greater (around greater (address + k * squares size))
+            ≡
             true
         by_size greater most inner (inl above) over =
             let e = (square_in_node (suc size) greater address (k * squares size) node
@@ -215,7 +220,8 @@ module _ (width height index : ℕ) (done : List Square) where
             let e = (square_in_node (suc size) (suc size) address (k * squares size) node
             (omega arith) few_size inner).1 in
             subst
-            (λ g. crosses (site width height index) g (around g (address + k * squares size)) ≡ true)
+            (λ g. crosses (site width height index) g (around g (address + k * squares size)) ≡
+            true)
             is_parent (rw (e, around_own (suc size) address node) crossing)
 
   -- what is to be shown of all nodes of a size
@@ -297,17 +303,20 @@ module _ (width height index : ℕ) (done : List Square) where
       let a = part_node size address address w h earlier smaller p0 behind in
       let behind_a = behind_next size address (address + n) earlier _ behind a refl in
       let earlier_a : List Square = after size earlier (widened size (blank_tree size w h)) in
-      let b = part_node size address (address + n) (w - side size) h earlier_a smaller p1 behind_a in
+      let b = part_node size address (address + n) (w - side size) h earlier_a smaller p1 behind_a
+      in
       let behind_b = behind_next size (address + n) (address + 2 * n) earlier_a _ behind_a b
       (omega arith) in
       let earlier_b : List Square =
       after size earlier_a (widened size (blank_tree size (w - side size) h)) in
-      let c = part_node size address (address + 2 * n) w (h - side size) earlier_b smaller p2 behind_b in
+      let c = part_node size address (address + 2 * n) w (h - side size) earlier_b smaller p2
+      behind_b in
       let behind_c = behind_next size (address + 2 * n) (address + 3 * n) earlier_b _ behind_b c
       (omega arith) in
       let earlier_c : List Square =
       after size earlier_b (widened size (blank_tree size w (h - side size))) in
-      let d = part_node size address (address + 3 * n) (w - side size) (h - side size) earlier_c smaller
+      let d = part_node size address (address + 3 * n) (w - side size) (h - side size) earlier_c
+      smaller
       p3 behind_c in
       record {
         valid = (inside, a.valid, b.valid, c.valid, d.valid);
@@ -329,7 +338,8 @@ module _ (width height index : ℕ) (done : List Square) where
       is_outside (site width height index) address ≡ outside →
       IsWidened zero address earlier
       (cond outside NarrowOutside (NarrowLeaf (NarrowIntra dc_mode)))
-  smallest_by true address earlier node parents behind e = outside_node zero address earlier behind e
+  smallest_by true address earlier node parents behind e =
+      outside_node zero address earlier behind e
   smallest_by false address earlier node parents behind e =
       smallest_node address earlier node parents behind e
 
@@ -357,9 +367,11 @@ module _ (width height index : ℕ) (done : List Square) where
   unfolding Blanks
   all_nodes zero address earlier node parents behind =
       subst
-      (λ o. IsWidened zero address earlier (cond o NarrowOutside (NarrowLeaf (NarrowIntra dc_mode))))
+      (λ o. IsWidened zero address earlier (cond o NarrowOutside
+      (NarrowLeaf (NarrowIntra dc_mode))))
       (outside_same address)
-      (smallest_by (is_outside (site width height index) address) address earlier node parents behind
+      (smallest_by (is_outside (site width height index) address) address earlier node parents
+      behind
       refl)
   all_nodes (suc size) address earlier node parents behind =
       let w : ℕ = across address in
@@ -458,8 +470,10 @@ blocks_agree width height (suc count) index done (unit ∷ units) blank number v
     subst (λ t. IsWidened width height index done greatest_size 0 [] t) (sym valid.0)
     (whole_block width height index done blank number) in
     let many : length these ≡ 64 =
-    length-squares I 0 (site width height index) greatest_size 0 (widened greatest_size tree) block.valid in
-    let later : SlicesAgree width height count (index + 1) (after greatest_size done (widened greatest_size tree)) units =
+    length-squares I 0 (site width height index) greatest_size 0 (widened greatest_size tree)
+    block.valid in
+    let later : SlicesAgree width height count (index + 1) (after greatest_size done
+    (widened greatest_size tree)) units =
     blocks_agree width height count (index + 1) (done ++ these) units block.blank
     (rw (length-append done these) (omega (arith, many, number))) valid.2 in
     let sao : List Bin = narrow_sao_bins (narrow_site width height index) unit.sao in
@@ -471,9 +485,11 @@ blocks_agree width height (suc count) index done (unit ∷ units) blank number v
         later.valid,
       );
       same = ap₂ (λ first others. first ++ others)
-          (ap₂ (λ offsets node. offsets ++ (node ++ terminate_bin unit.end_of_slice_segment_flag ∷ []))
+          (ap₂ (λ offsets node. offsets ++ (node ++ terminate_bin unit.end_of_slice_segment_flag ∷
+          []))
           (sao_same width height index unit.sao) block.same ∙
-          sym (append_assoc sao (tree_bins 3 tree) (terminate_bin unit.end_of_slice_segment_flag ∷ [])))
+          sym (append_assoc sao (tree_bins 3 tree) (terminate_bin unit.end_of_slice_segment_flag ∷
+          [])))
           later.same;
     }
 

@@ -86,11 +86,13 @@ chroma_mode_there : (kind : SliceKind) → IsAskedIn kind (context ChromaMode 0)
 chroma_mode_there I = omega arith
 chroma_mode_there P = omega arith
 
-cbf_chroma_there : (kind : SliceKind) (depth : ℕ) → depth ≤ 1 → IsAskedIn kind (context CbfChroma depth)
+cbf_chroma_there : (kind : SliceKind) (depth : ℕ) → depth ≤ 1 →
+    IsAskedIn kind (context CbfChroma depth)
 cbf_chroma_there I depth h = omega (arith, h)
 cbf_chroma_there P depth h = omega (arith, h)
 
-cbf_luma_by : (kind : SliceKind) (at_root : Bool) → IsAskedIn kind (context CbfLuma (cond at_root 1 0))
+cbf_luma_by : (kind : SliceKind) (at_root : Bool) →
+    IsAskedIn kind (context CbfLuma (cond at_root 1 0))
 cbf_luma_by I true = omega arith
 cbf_luma_by I false = omega arith
 cbf_luma_by P true = omega arith

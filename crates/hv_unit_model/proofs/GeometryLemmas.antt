@@ -57,7 +57,8 @@ node_test size address b =
 -- at the multiples of the number of squares
 nodes_test : ℕ → ℕ → Bool
 nodes_test size address =
-    not (nat_eq (address % squares size) 0) || all_below (squares size) (λ b. node_test size address b)
+    not (nat_eq (address % squares size) 0) || all_below (squares size)
+    (λ b. node_test size address b)
 
 nodes : all_below 4 (λ size. all_below 64 (λ address. nodes_test size address)) ≡ true
 unfolding node_test nodes_test column_of row_of
@@ -66,11 +67,15 @@ nodes = refl
 pub square_of_node : NodesAreSquares
 unfolding node_test nodes_test
 square_of_node size address b few inside even below =
-    let sizes = holds_below 4 (λ n. all_below 64 (λ a. nodes_test n a)) nodes size (omega (arith, few)) in
+    let sizes = holds_below 4 (λ n. all_below 64 (λ a. nodes_test n a)) nodes size (omega (
+      arith,
+      few,
+    )) in
     let here = holds_below 64 (λ a. nodes_test size a) sizes address inside in
     let is_even = eq-eqb (address % squares size) 0 even in
     let all = second_of (not (nat_eq (address % squares size) 0)) _ here (rw is_even refl) in
-    let p = and_parts _ _ (holds_below (squares size) (λ n. node_test size address n) all b below) in
+    let p = and_parts _ _ (holds_below (squares size) (λ n. node_test size address n) all b below)
+    in
     let q = and_parts _ _ p.1 in
     let r = and_parts _ _ q.1 in
     (eqb-true _ _ p.0, eqb-true _ _ q.0, ltb-true _ _ r.0, ltb-true _ _ r.1)

@@ -10,7 +10,8 @@ Gives P (Done a) = P a
 Gives {V = V} P (Ask q c) = (v : V) → Gives P (c v)
 Gives P Fail = Unit {0}
 
-pub given : {Q V A : Type 0} (P : A → Type 0) {s : Script Q V A} {bins : List (Answered Q V)} {a : A} →
+pub given : {Q V A : Type 0} (P : A → Type 0) {s : Script Q V A} {bins : List (Answered Q V)}
+    {a : A} →
     Gives P s → Reads s bins a → P a
 given P g nothing = g
 given P g (one {v = v} r) = given P (g v) r

@@ -19,13 +19,15 @@ around size address = address / squares size * squares size
 
 -- from the addresses of nodes of a size, what holds of each
 node_facts_test : (ℕ → Bool) → ℕ → Bool
-node_facts_test holds size = all_below 64 (λ address. not (nat_eq (address % squares size) 0) || holds address)
+node_facts_test holds size = all_below 64 (λ address. not (nat_eq (address % squares size) 0) ||
+    holds address)
 
 node_fact : (holds : ℕ → Bool) (size : ℕ) → node_facts_test holds size ≡ true → (address : ℕ) →
     IsNode size address → holds address ≡ true
 unfolding node_facts_test
 node_fact holds size all address node =
-    let here = holds_below 64 (λ a. not (nat_eq (a % squares size) 0) || holds a) all address node.inside in
+    let here = holds_below 64 (λ a. not (nat_eq (a % squares size) 0) || holds a) all address
+    node.inside in
     let is_even = eq-eqb (address % squares size) 0 node.even in
     second_of (not (nat_eq (address % squares size) 0)) (holds address) here (rw is_even refl)
 
@@ -36,7 +38,8 @@ part_test size greater address b =
 
 parts_test : ℕ → ℕ → Bool
 parts_test size more =
-    node_facts_test (λ address. all_below (squares size) (λ b. part_test size (size + more) address b)) size
+    node_facts_test (λ address. all_below (squares size) (λ b. part_test size (size + more) address
+    b)) size
 
 parts : all_below 4 (λ size. all_below 4 (λ more. parts_test size more)) ≡ true
 unfolding parts_test part_test node_facts_test around
@@ -50,11 +53,19 @@ square_in_node size greater address b node least most below =
     let more : ℕ = greater - size in
     let sum : size + more ≡ greater = omega (arith, least) in
     let few = node.few in
-    let of_size = holds_below 4 (λ n. all_below 4 (λ m. parts_test n m)) parts size (omega (arith, few)) in
+    let of_size = holds_below 4 (λ n. all_below 4 (λ m. parts_test n m)) parts size (omega (
+      arith,
+      few,
+    )) in
     let of_more = holds_below 4 (λ m. parts_test size m) of_size more (omega (arith, most)) in
-    let all = node_fact (λ a. all_below (squares size) (λ n. part_test size (size + more) a n)) size of_more address node in
-    let p = and_parts _ _ (holds_below (squares size) (λ n. part_test size (size + more) address n) all b below) in
-    (ltb-true _ _ p.0, subst (λ g. around g (address + b) ≡ around g address) sum (eqb-true _ _ p.1))
+    let all = node_fact (λ a. all_below (squares size) (λ n. part_test size (size + more) a n)) size
+    of_more address node in
+    let p = and_parts _ _ (holds_below (squares size) (λ n. part_test size (size + more) address n)
+    all b below) in (
+      ltb-true _ _ p.0,
+      subst (λ g. around g (address + b) ≡
+          around g address) sum (eqb-true _ _ p.1),
+    )
 
 -- the node around a node's own corner is the node
 own_test : ℕ → Bool
@@ -69,7 +80,10 @@ unfolding own_test
 around_own size address node =
     let few = node.few in
     eqb-true _ _
-    (node_fact (λ a. nat_eq (around size a) a) size (holds_below 4 own_test owns size (omega (arith, few))) address node)
+    (node_fact (λ a. nat_eq (around size a) a) size (holds_below 4 own_test owns size (omega (
+      arith,
+      few,
+    ))) address node)
 
 -- the four nodes that a node is split into, and their corners
 child_test : ℕ → ℕ → Bool
@@ -79,7 +93,8 @@ child_test size address =
     (nat_eq (column_of (address + k * squares size)) (column_of address + k % 2 * 2 ^ size) &&
     nat_eq (row_of (address + k * squares size)) (row_of address + k / 2 * 2 ^ size)))
 
-children : all_below 3 (λ size. node_facts_test (λ address. child_test size address) (suc size)) ≡ true
+children : all_below 3 (λ size. node_facts_test (λ address. child_test size address) (suc size)) ≡
+    true
 unfolding child_test node_facts_test column_of row_of
 children = refl
 
@@ -104,17 +119,23 @@ unfolding child_test
 child_of size address k node below =
     let few = node.few in
     let all = node_fact (λ a. child_test size a) (suc size)
-    (holds_below 3 (λ n. node_facts_test (λ a. child_test n a) (suc n)) children size (omega (arith, few))) address node in
-    let p = and_parts _ _ (holds_below 4 (λ n. nat_eq ((address + n * squares size) % squares size) 0 &&
+    (holds_below 3 (λ n. node_facts_test (λ a. child_test n a) (suc n)) children size (omega (
+      arith,
+      few,
+    ))) address node in
+    let p = and_parts _ _ (holds_below 4 (λ n. nat_eq ((address + n * squares size) % squares size)
+    0 &&
     (nat_eq (column_of (address + n * squares size)) (column_of address + n % 2 * 2 ^ size) &&
-    nat_eq (row_of (address + n * squares size)) (row_of address + n / 2 * 2 ^ size))) all k below) in
+    nat_eq (row_of (address + n * squares size)) (row_of address + n / 2 * 2 ^ size))) all k below)
+    in
     let q = and_parts _ _ p.1 in
     let in_parent : k * squares size < squares (suc size) =
     below_4_times k (squares size) (squares_above_0 size) below in
     record {
       node = record {
         few = omega (arith, few);
-        inside = (square_in_node (suc size) (suc size) address (k * squares size) node (omega arith) few in_parent).0;
+        inside = (square_in_node (suc size) (suc size) address (k * squares size) node (omega arith)
+            few in_parent).0;
         even = eqb-true _ _ p.0;
       };
       column = eqb-true _ _ q.0;
@@ -134,28 +155,33 @@ above_test size address =
     let there = around size (address_of (column_of address) row) in
     nat_eq (row_of there + 2 ^ size) (row + 1) && nat_eq (column_of there) (column_of address)
 
-neighbours : all_below 4 (λ size. node_facts_test (λ address. left_test size address && above_test size address) size) ≡ true
+neighbours : all_below 4 (λ size. node_facts_test (λ address. left_test size address && above_test
+    size address) size) ≡ true
 unfolding left_test above_test node_facts_test column_of row_of address_of around
 neighbours = refl
 
 pub record HasNeighbours (size address : ℕ) : Type 0 where
   pub left_column :
-      column_of (around size (address_of ((7 + column_of address) % 8) (row_of address))) + 2 ^ size ≡
+      column_of (around size (address_of ((7 + column_of address) % 8) (row_of address))) + 2 ^ size
+      ≡
       (7 + column_of address) % 8 + 1
   pub left_row :
-      row_of (around size (address_of ((7 + column_of address) % 8) (row_of address))) ≡ row_of address
+      row_of (around size (address_of ((7 + column_of address) % 8) (row_of address))) ≡
+      row_of address
   pub above_row :
       row_of (around size (address_of (column_of address) ((7 + row_of address) % 8))) + 2 ^ size ≡
       (7 + row_of address) % 8 + 1
   pub above_column :
-      column_of (around size (address_of (column_of address) ((7 + row_of address) % 8))) ≡ column_of address
+      column_of (around size (address_of (column_of address) ((7 + row_of address) % 8))) ≡
+      column_of address
 
 pub neighbours_of : (size address : ℕ) → IsNode size address → HasNeighbours size address
 unfolding left_test above_test
 neighbours_of size address node =
     let few = node.few in
     let all = node_fact (λ a. left_test size a && above_test size a) size
-    (holds_below 4 (λ n. node_facts_test (λ a. left_test n a && above_test n a) n) neighbours size (omega (arith, few))) address node in
+    (holds_below 4 (λ n. node_facts_test (λ a. left_test n a && above_test n a) n) neighbours size
+    (omega (arith, few))) address node in
     let p = and_parts (left_test size address) (above_test size address) all in
     let q = and_parts _ _ p.0 in
     let r = and_parts _ _ p.1 in

@@ -26,11 +26,17 @@ within (pos n) h = leb-true n 7 h
 within (negsuc n) h =
     let e = leb-true n 6 (and_parts (int_le (negsuc 6) (negsuc n)) true h).0 in omega (arith, e)
 
-raised_up : (o : ℤ) → is_in raising o ≡ true → (unsigned_abs o ≤ 7) × (with_sign false (unsigned_abs o) ≡ o)
-raised_up (pos n) h = (leb-true n 7 (and_parts (int_le (pos 0) (pos n)) (int_le (pos n) (pos 7)) h).1, refl)
+raised_up : (o : ℤ) → is_in raising o ≡ true →
+    (unsigned_abs o ≤ 7) × (with_sign false (unsigned_abs o) ≡ o)
+raised_up (pos n) h = (
+  leb-true n 7 (and_parts (int_le (pos 0) (pos n)) (int_le (pos n) (pos 7))
+      h).1,
+  refl,
+)
 raised_up (negsuc n) h = cc
 
-lowered : (o : ℤ) → is_in lowering o ≡ true → (unsigned_abs o ≤ 7) × (with_sign true (unsigned_abs o) ≡ o)
+lowered : (o : ℤ) → is_in lowering o ≡ true → (unsigned_abs o ≤ 7) ×
+    (with_sign true (unsigned_abs o) ≡ o)
 lowered (pos zero) h = (omega arith, refl)
 lowered (pos (suc n)) h =
     let e = leb-true (suc n) 0 (and_parts true (int_le (pos (suc n)) (pos 0)) h).1 in
@@ -42,7 +48,8 @@ lowered (negsuc n) h =
 unchanged : (o : ℤ) → is_in no_change o ≡ true → pos 0 ≡ o
 unchanged (pos zero) h = refl
 unchanged (pos (suc n)) h =
-    let e = leb-true (suc n) 0 (and_parts (int_le (pos 0) (pos (suc n))) (int_le (pos (suc n)) (pos 0)) h).1 in
+    let e = leb-true (suc n) 0 (and_parts (int_le (pos 0) (pos (suc n)))
+    (int_le (pos (suc n)) (pos 0)) h).1 in
     absurd (omega (arith, e))
 unchanged (negsuc n) h = cc
 
@@ -223,9 +230,12 @@ reads_sao site offsets valid =
     reads_then _ (reads_merge (has_left site))
     (reads_then _ (reads_merge (has_above site))
     (reads_then _ (reads_type offsets.luma.kind)
-    (reads_then _ (reads_component offsets.luma.kind offsets.luma.offsets valid.luma.kind valid.luma.offsets)
+    (reads_then _ (reads_component offsets.luma.kind offsets.luma.offsets valid.luma.kind
+    valid.luma.offsets)
     (reads_then _ (reads_type offsets.cb.kind)
-    (reads_then _ (reads_component offsets.cb.kind offsets.cb.offsets valid.cb.kind valid.cb.offsets)
+    (reads_then _ (reads_component offsets.cb.kind offsets.cb.offsets valid.cb.kind
+    valid.cb.offsets)
     (reads_map
     (λ cr. record { luma = offsets.luma; cb = offsets.cb; cr = cr })
-    (reads_like offsets.cb.kind offsets.cr.kind offsets.cr.offsets valid.cr.kind valid.chroma valid.cr.offsets)))))))
+    (reads_like offsets.cb.kind offsets.cr.kind offsets.cr.offsets valid.cr.kind valid.chroma
+    valid.cr.offsets)))))))

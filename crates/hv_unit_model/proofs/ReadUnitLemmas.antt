@@ -33,7 +33,8 @@ are_modes list =
     all_below 3 (λ i. nat_lt (slice_index_or list i 0) intra_modes) &&
     all_below 32 (λ n. nat_lt (mode_of_remaining list n) intra_modes)
 
-computed : all_below intra_modes (λ a. all_below intra_modes (λ b. are_modes (candModeList a b))) ≡ true
+computed : all_below intra_modes (λ a. all_below intra_modes (λ b. are_modes (candModeList a b))) ≡
+    true
 unfolding candModeList mode_of_remaining
 computed = refl
 
@@ -43,7 +44,8 @@ unfolding luma_mode
 gives_mode a b first second =
     let list : List ℕ = candModeList a b in
     let all = holds_below intra_modes (λ n. are_modes (candModeList a n))
-    (holds_below intra_modes (λ m. all_below intra_modes (λ n. are_modes (candModeList m n))) computed a first)
+    (holds_below intra_modes (λ m. all_below intra_modes (λ n. are_modes (candModeList m n)))
+    computed a first)
     b second in
     let parts = and_parts (all_below 3 (λ i. nat_lt (slice_index_or list i 0) intra_modes))
     (all_below 32 (λ n. nat_lt (mode_of_remaining list n) intra_modes)) all in
@@ -53,12 +55,14 @@ gives_mode a b first second =
     gives_then (λ i. i ≤ 2) (λ mode. mode < intra_modes) (truncated_unary bypass_at 2 0) _
     (unary_at_most bypass_at 2 0)
     (λ i most.
-    ltb-true _ _ (holds_below 3 (λ n. nat_lt (slice_index_or list n 0) intra_modes) parts.0 i (omega (arith, most)))))
+    ltb-true _ _ (holds_below 3 (λ n. nat_lt (slice_index_or list n 0) intra_modes) parts.0 i
+    (omega (arith, most)))))
     (λ not_prev.
     gives_then (λ n. n < 32) (λ mode. mode < intra_modes) (fixed_length 5)
     (λ n. Done (mode_of_remaining list n)) (fixed_below 5)
     (λ n below.
-    ltb-true _ _ (holds_below 32 (λ m. nat_lt (mode_of_remaining list m) intra_modes) parts.1 n below)))
+    ltb-true _ _ (holds_below 32 (λ m. nat_lt (mode_of_remaining list m) intra_modes) parts.1 n
+    below)))
 
 -- ---- motion
 
@@ -92,7 +96,8 @@ gives_reference : (references : ℕ) → 1 ≤ references →
     Gives (λ r. r < references) (ref_idx_l0 references)
 gives_reference references some =
     gives_either (λ r. r < references) (nat_lt 1 references) _ _
-    (λ two flag. let e = ltb-true 1 references two in let f = digit_below_2 flag in omega (arith, e, f))
+    (λ two flag. let e = ltb-true 1 references two in let f = digit_below_2 flag in
+    omega (arith, e, f))
     (λ one. omega (arith, some))
 
 gives_motion : (references : ℕ) → 1 ≤ references → references ≤ 2 →
@@ -233,7 +238,8 @@ module _ (s : Surroundings) (has : HasReferences s.slice_type s.references)
       Gives (Valid size address) (inter_unit s.references size)
   unfolding inter_unit
   gives_inter size address is_P inside fits =
-      let some : HasReferences P s.references = subst (λ k. HasReferences k s.references) is_P has in
+      let some : HasReferences P s.references =
+      subst (λ k. HasReferences k s.references) is_P has in
       gives_after (Valid size address) part_mode _ (λ m.
       gives_then (IsMotion s.references) (Valid size address) (prediction_unit s.references) _
       (gives_motion s.references some.0 some.1)
@@ -324,7 +330,8 @@ module _ (s : Surroundings) (has : HasReferences s.slice_type s.references)
       Gives (Valid (suc size) address) a →
       (crosses s.site (suc size) address ≡ false → Gives (Valid (suc size) address) b) →
       Gives (Valid (suc size) address)
-      (cond crossing (Done true) (ask (context SplitFlag (split_ctxInc s (suc size) address earlier)))
+      (cond crossing (Done true) (ask (context SplitFlag (split_ctxInc s (suc size) address
+      earlier)))
       >>= λ split. cond split a b)
   split_by true size address earlier e a b g h = g
   split_by false size address earlier e a b g h = λ split.

@@ -73,7 +73,8 @@ length-squares kind references site (suc size) address (Split a b c d) valid =
     let fourth : length (squares_of size d) ≡ n =
     length-squares kind references site size (address + 3 * n) d valid.4 in
     rw (
-      length-append (squares_of size a) (squares_of size b ++ (squares_of size c ++ squares_of size d)),
+      length-append (squares_of size a) (squares_of size b ++
+          (squares_of size c ++ squares_of size d)),
       length-append (squares_of size b) (squares_of size c ++ squares_of size d),
       length-append (squares_of size c) (squares_of size d),
     ) (omega (arith, first, second, third, fourth))

@@ -130,8 +130,10 @@ module _ (s : Surroundings) (sees : SeesModes s.look) where
       let behind_b : List Square = after size behind_a b in
       let behind_c : List Square = after size behind_b c in
       let known_a : HaveModes behind_a = modes_then earlier _ known (modes address a valid.1) in
-      let known_b : HaveModes behind_b = modes_then behind_a _ known_a (modes (address + n) b valid.2) in
-      let known_c : HaveModes behind_c = modes_then behind_b _ known_b (modes (address + 2 * n) c valid.3) in
+      let known_b : HaveModes behind_b = modes_then behind_a _ known_a
+      (modes (address + n) b valid.2) in
+      let known_c : HaveModes behind_c = modes_then behind_b _ known_b
+      (modes (address + 2 * n) c valid.3) in
       rw valid.0
       (behind_split _ _ _ _ (crosses s.site (suc size) address)
       (context Split (split_ctxInc s (suc size) address earlier))

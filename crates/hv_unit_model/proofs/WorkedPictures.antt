@@ -1,12 +1,14 @@
--- Worked values of what earlier blocks and units tell later ones, and of nodes at a picture's edges.
+-- Worked values of what earlier blocks and units tell later ones, and of nodes at the edges of a
+-- picture.
 use Rattle.std.proofs.Common.{◌≡◌, ℕ, true, false, List, [], ◌∷◌, ◌++◌, refl}
 use Rattle.hv_types.specs.declared.bins.CtxTable.TheVariants.{PartMode, PrevIntra, ChromaMode, CbfLuma, CbfChroma}
 use Rattle.hv_types.specs.declared.bins.SliceKind.TheVariants.{I}
 use Rattle.hv_residual_model.specs.UnitBins.{UnitBin, InBypass, unit_bin}
 use Rattle.hv_residual_model.specs.Binarization.{truncated_unary_bins}
+use Rattle.hv_lemmas.specs.Lists.{tabulate}
 use Rattle.hv_unit_model.specs.Trees.{Motion, Intra, Inter, Tree, Leaf, Split as SplitTree, Outside, no_levels, no_units}
 use Rattle.hv_unit_model.specs.Sites.{Site, site, sites, address_of, column_of, row_of, is_outside, crosses, must_split}
-use Rattle.hv_unit_model.specs.EarlierUnits.{Square, squares_of, Surroundings, look_picture, in_picture, split_ctxInc}
+use Rattle.hv_unit_model.specs.EarlierUnits.{Unavailable, Coded, square_at, Square, squares_of, Surroundings, look_picture, in_picture, split_ctxInc}
 use Rattle.hv_unit_model.specs.MostProbableModes.{candModeList, candidates}
 use Rattle.hv_unit_model.specs.Bins.{bin, luma_mode_bins, transform_tree_bins, transform_unit_bins, predicted_bins, bins_of_node}
 
@@ -137,6 +139,49 @@ inter_stands_for_dc :
     candidates block_of_64 4 (squares_of 1 (Leaf (Inter motion) [])) ≡ 0 ∷ 1 ∷ 26 ∷ []
 unfolding block_of_64 candModeList look_picture column_of row_of address_of
 inter_stands_for_dc motion = refl
+
+-- ---- squares at places of a picture, which are counted from 8: each is marked by its number
+
+marked : ℕ → List Square
+marked count = tabulate count (λ n. Coded n (Intra 1))
+
+-- of 16x16 squares: column 11 and row 13 lie in the last block, at column 3 and row 5
+in_last_block : square_at (site 128 128 0) (marked 256) 19 21 ≡ Coded 231 (Intra 1)
+unfolding marked tabulate address_of
+in_last_block = refl
+
+in_second_block : square_at (site 128 128 3) (marked 256) 22 9 ≡ Coded 86 (Intra 1)
+unfolding marked tabulate address_of
+in_second_block = refl
+
+not_yet : square_at (site 128 128 0) (marked 231) 19 21 ≡ Unavailable
+unfolding marked tabulate address_of
+not_yet = refl
+
+-- of 9x7 squares: the last column and the last row, one beyond each, and one before the first
+last_column : square_at (site 72 56 0) (marked 128) 16 8 ≡ Coded 64 (Intra 1)
+unfolding marked tabulate address_of
+last_column = refl
+
+beyond_the_right : square_at (site 72 56 0) (marked 128) 17 8 ≡ Unavailable
+unfolding marked tabulate address_of
+beyond_the_right = refl
+
+last_row : square_at (site 72 56 0) (marked 128) 8 14 ≡ Coded 40 (Intra 1)
+unfolding marked tabulate address_of
+last_row = refl
+
+below_the_last : square_at (site 72 56 0) (marked 128) 8 15 ≡ Unavailable
+unfolding marked tabulate address_of
+below_the_last = refl
+
+before_the_first : square_at (site 72 56 0) (marked 128) 7 8 ≡ Unavailable
+unfolding marked tabulate address_of
+before_the_first = refl
+
+above_the_first : square_at (site 72 56 0) (marked 128) 8 7 ≡ Unavailable
+unfolding marked tabulate address_of
+above_the_first = refl
 
 -- ---- a picture of 66x50, padded to 72x56: two blocks
 

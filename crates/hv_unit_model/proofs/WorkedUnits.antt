@@ -70,7 +70,8 @@ large_inter_unit = refl
 difference_of : ℤ → ℤ → List UnitBin
 difference_of x y = mvd_bins (vector x y)
 
-no_difference : difference_of (pos 0) (pos 0) ≡ bin MvdGreater0 0 false ∷ bin MvdGreater0 0 false ∷ []
+no_difference : difference_of (pos 0) (pos 0) ≡
+    bin MvdGreater0 0 false ∷ bin MvdGreater0 0 false ∷ []
 unfolding difference_of vector mvd_bins exp_golomb_bins
 no_difference = refl
 

@@ -27,13 +27,14 @@ pub fn slice_data_is_read_back()
     ensures { SliceDataIsReadBack }
 {}
 
-/// Whatever answers the questions of sample adaptive offsets (7.3.8.3): what is read may be coded.
+/// Whatever answers the questions of sample adaptive offsets (7.3.8.3): what is read may be
+/// coded.
 pub fn read_offsets_may_be_coded()
     ensures { OffsetsThatAreReadMayBeCoded }
 {}
 
-/// Whatever answers the questions of a coding quadtree (7.3.8.4): the tree that is read may be coded
-/// at its node, in an I slice, or in a P slice of one or two references.
+/// Whatever answers the questions of a coding quadtree (7.3.8.4): the tree that is read may be
+/// coded at its node, in an I slice, or in a P slice of one or two references.
 pub fn read_nodes_may_be_coded()
     ensures { NodesThatAreReadMayBeCoded }
 {}

@@ -133,6 +133,19 @@ left_edge_has_no_mode :
 unfolding at_left_edge four of_mode candModeList look_picture column_of row_of address_of
 left_edge_has_no_mode = refl
 
+-- beside four units of 8x8 with modes of their own: at their right the second counts, and below them
+-- the third
+four_modes : List Square
+four_modes = squares_of 1 (SplitTree (of_mode 3) (of_mode 4) (of_mode 6) (of_mode 7))
+
+second_at_the_right : candidates block_of_64 4 four_modes ≡ 4 ∷ 1 ∷ 0 ∷ []
+unfolding block_of_64 four_modes of_mode candModeList look_picture column_of row_of address_of
+second_at_the_right = refl
+
+third_above : candidates block_of_64 8 (four_modes ++ four_modes) ≡ 1 ∷ 6 ∷ 0 ∷ []
+unfolding block_of_64 four_modes of_mode candModeList look_picture column_of row_of address_of
+third_above = refl
+
 -- an inter unit stands for DC
 inter_stands_for_dc :
     (motion : Motion) →

@@ -1,20 +1,18 @@
 -- What is read of a payload is what it was made with.
-use Rattle.std.proofs.Common.{◌≡◌, ℕ, zero, suc, ◌+◌, ◌-◌, ◌/◌, ◌%◌, ◌<◌, ◌≤◌, true, cond, List, [], ◌∷◌, ◌++◌, length, take, drop, refl, sym, ap, ap₂, ◌∙◌, arith, append_assoc, length-append, eq-eqb, lt-ltb}
+use Rattle.std.proofs.Common.{◌≡◌, ℕ, suc, ◌+◌, ◌-◌, ◌%◌, ◌<◌, true, cond, List, [], ◌∷◌, ◌++◌, length, take, drop, refl, ap, ◌∙◌, arith, length-append, eq-eqb, lt-ltb}
 use Rattle.std.specs.Prelude.{nat_eq, nat_lt, Some, None}
-use Rattle.std.proofs.lemmas.List.{take_at, drop_at, take-replicate, drop-replicate}
-use Rattle.hv_stream_model.specs.Bits.{digits, number_of, bits_of, first_bytes, bytes_of}
+use Rattle.std.proofs.lemmas.List.{take_at, drop_at}
+use Rattle.hv_stream_model.specs.Bits.{bits_of}
 use Rattle.hv_stream_model.specs.BitLaws.{AreBits}
-use Rattle.hv_stream_model.specs.Fields.{Descriptor, U, Ue, Field, code_of, log2_of, field_bits, bits_of_fields, read_header, padding_of, aligned}
+use Rattle.hv_stream_model.specs.Fields.{bits_of_fields, read_header, padding_of, aligned}
 use Rattle.hv_stream_model.specs.Units.{same_bytes, last_of}
 use Rattle.hv_model.specs.Decoding.{is_trailing, is_slice_end}
-use Rattle.hv_stream_model.specs.FieldLaws.{JoinedFieldsHaveJoinedBits}
-use Rattle.hv_stream_model.specs.BitLaws.{missing, BitsComeBackFilled}
 use Rattle.hv_model.specs.PayloadLaws.{ParametersAreRead, AlignmentIsRead}
 use Rattle.hv_stream_model.proofs.ZeroLemmas.{zeros, length-zeros, AreBits-zeros, all_zero}
 use Rattle.hv_stream_model.proofs.FilledBitLemmas.{AreBits-fields}
 use Rattle.hv_stream_model.proofs.FieldLemmas.{length-aligned, last_of-append, fields_read_back}
 use Rattle.hv_stream_model.proofs.UnitLemmas.{same_bytes_self}
-use Rattle.hv_stream_model.proofs.BitLemmas.{AreBits-digits, AreBits-append, bits_of-bytes_of}
+use Rattle.hv_stream_model.proofs.BitLemmas.{AreBits-append, bits_of-bytes_of}
 
 -- ---- trailing bits
 

@@ -3,6 +3,7 @@ use Rattle.std.proofs.Common.{◌≡◌, ◌≢◌, ℕ, ◌-◌, ◌*◌, ◌/�
 use Rattle.std.proofs.lemmas.List.{length-map}
 use Rattle.std.proofs.lemmas.Bool.{and_parts, eqb-true}
 use Rattle.std.specs.Prelude.{not, nat_eq, map, flat_map, filter, Option, Some, option_and_then}
+use Rattle.std.specs.List.{list_all}
 use Rattle.hv_types.specs.declared.settings.Settings.{Settings}
 use Rattle.hv_types.specs.declared.picture.Picture.{Picture}
 use Rattle.hv_types.specs.Configuration.{IsValid, padded_width, padded_height}
@@ -14,14 +15,16 @@ use Rattle.hv_stream_model.specs.Headers.{Size, vps, sps, pps, read_vps, read_sp
 use Rattle.hv_stream_model.specs.HeaderLaws.{IsAllowed}
 use Rattle.hv_stream_model.specs.UnitLaws.{AreUnits, stream_of}
 use Rattle.hv_group_model.specs.Structure.{qp_at}
-use Rattle.hv_syntax_model.specs.Bins.{Site}
+use Rattle.hv_unit_model.specs.Sites.{Site}
 use Rattle.hv_model.specs.Encoding as encoding
-use Rattle.hv_model.specs.Decoding.{picture_of_unit, is_passed_over, picture_then, pictures_of_units, parameters, with_parameters, pictures_after_sets, decode_units, decode_of}
+use Rattle.hv_unit_model.specs.Trees.{CodingTreeUnit}
+use Rattle.hv_model.specs.Reconstruction.{is_blank, grey, filtered_picture}
+use Rattle.hv_model.specs.Decoding.{cropped, shown_picture, picture_of_unit, is_passed_over, picture_then, pictures_of_units, parameters, with_parameters, pictures_after_sets, decode_units, decode_of}
 use Rattle.hv_model.specs.Built.{IsBuilt, is_built, BuiltIsDecided}
 use Rattle.hv_model.specs.RoundTrip.{DecodingGivesReconstruction, EachIsReconstructed}
 use Rattle.hv_stream_model.proofs.HeaderLemmas.{reads_vps, reads_sps, reads_pps, codable_vps, codable_sps, codable_pps, sizes_allowed}
-use Rattle.hv_model.proofs.SliceDataLemmas.{coded_units_valid}
-use Rattle.hv_syntax_model.proofs.BlockLemmas.{sites_there}
+use Rattle.hv_model.proofs.CodedUnitLemmas.{coded_units_valid, coded_units_blank}
+use Rattle.hv_unit_model.proofs.UnitLemmas.{sites_there}
 use Rattle.hv_model.proofs.PayloadLemmas.{parameters-back}
 use Rattle.hv_model.proofs.SliceLemmas.{slices_back, slices_end}
 use Rattle.hv_stream_model.proofs.UnitLemmas.{streams_read, stream_of_units}
@@ -123,6 +126,12 @@ slices_kept cfg [] = refl
 slices_kept cfg (picture ∷ pictures) =
     ap (λ us. slice_unit cfg picture ∷ us) (slices_kept cfg pictures)
 
+units_are_shown : (size : Size) (units : List CodingTreeUnit) → list_all is_blank units ≡ true →
+    shown_picture size units ≡
+    Some (cropped size (filtered_picture units
+    (grey size.pic_width_in_luma_samples size.pic_height_in_luma_samples)))
+units_are_shown size units blank = rw blank refl
+
 picture_is_shown : (cfg : Settings) → IsBuilt cfg → (picture : Picture) →
     picture_of_unit (size_of cfg) (slice_unit cfg picture) ≡
     Some (crop (encoding.recon_picture cfg picture) cfg.width cfg.height)
@@ -137,6 +146,7 @@ picture_is_shown cfg h picture =
     let places : List Site = encoding.picture_sites cfg in
     slices_back (size_of cfg) (qp_at cfg.qp 0) (encoding.coded_units places)
     (slice_unit cfg picture) (blocks_there cfg h) (coded_units_valid places) small refl refl ∙
+    units_are_shown (size_of cfg) (encoding.coded_units places) (coded_units_blank places) ∙
     ap₂ (λ w k. Some (crop (encoding.recon_picture cfg picture) w k)) right bottom
 
 pictures_are_shown : (cfg : Settings) → IsBuilt cfg → (pictures : List Picture) →

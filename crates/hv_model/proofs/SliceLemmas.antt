@@ -1,6 +1,6 @@
 -- What is read of a slice is what it was made with.
 use Rattle.std.proofs.Common.{◌≡◌, ◌≢◌, ℕ, ◌+◌, ◌-◌, ◌/◌, ◌%◌, ◌^◌, ◌<◌, Bool, true, cond, List, [], ◌∷◌, ◌++◌, length, refl, sym, ap, ◌∙◌, subst, arith, append_assoc, length-append, IsSomeAnd}
-use Rattle.std.specs.Prelude.{Option, Some, None, option_and_then, option_map}
+use Rattle.std.specs.Prelude.{Option, Some, None, option_and_then}
 use Rattle.hv_types.specs.declared.bins.SliceKind.{SliceKind}
 use Rattle.hv_types.specs.declared.bins.SliceKind.TheVariants.{I}
 use Rattle.hv_types.specs.Bins.{Bin}
@@ -12,9 +12,11 @@ use Rattle.hv_stream_model.specs.Fields.{bits_of_fields, read_header, padding_of
 use Rattle.hv_stream_model.specs.Units.{last_of}
 use Rattle.hv_stream_model.specs.Headers.{Size, idr_slice, read_idr_slice}
 use Rattle.hv_entropy_model.specs.Oracle.{Oracle, begin, read, bits_left}
-use Rattle.hv_syntax_model.specs.Trees.{CodingTreeUnit}
-use Rattle.hv_syntax_model.specs.Bins.{Site, AreValid, slice_bins}
-use Rattle.hv_syntax_model.specs.BlockSyntax.{slice_segment_data}
+use Rattle.hv_unit_model.specs.Trees.{CodingTreeUnit}
+use Rattle.hv_unit_model.specs.Sites.{Site}
+use Rattle.hv_unit_model.specs.Validity.{AreValid}
+use Rattle.hv_unit_model.specs.Bins.{slice_bins}
+use Rattle.hv_unit_model.specs.BlockSyntax.{slice_segment_data}
 use Rattle.hv_model.specs.Decoding.{behind_alignment, is_slice_end, if_ended, slice_data, has_type, sites_of, shown_picture, slice_after_header}
 use Rattle.hv_stream_model.specs.BitLaws.{missing}
 use Rattle.hv_model.specs.PayloadLaws.{SliceDataIsRead, payload_of_slice, SlicesAreRead, SlicesEnd}
@@ -23,7 +25,7 @@ use Rattle.hv_stream_model.proofs.DigitLemmas.{digits-add}
 use Rattle.hv_stream_model.proofs.BitLemmas.{AreBits-digits, AreBits-append}
 use Rattle.hv_entropy_model.proofs.OracleLemmas.{script_reads_code_word}
 use Rattle.hv_stream_model.proofs.HeaderLemmas.{reads_idr_slice, codable_idr_slice}
-use Rattle.hv_syntax_model.proofs.BlockLemmas.{reads_slice}
+use Rattle.hv_unit_model.proofs.UnitLemmas.{reads_slice}
 use Rattle.hv_model.proofs.SliceDataLemmas.{slice_ends}
 use Rattle.hv_stream_model.proofs.FilledBitLemmas.{bytes_of-zeros, bits_of-bytes_of-zeros, AreBits-fields}
 use Rattle.hv_model.proofs.PayloadLemmas.{AreBits-aligned, alignment-back, slice_end}
@@ -71,25 +73,25 @@ ended_units bits rest units (Some r) e h = rw (h.0, h.1, e) refl
 begun_units : (places : List Site) (bits rest : List ℕ) (units : List CodingTreeUnit)
     (o : Option Oracle) →
     is_slice_end bits rest ≡ true →
-    IsSomeAnd o (λ first. IsSomeAnd (read (slice_segment_data places) first)
+    IsSomeAnd o (λ first. IsSomeAnd (read (slice_segment_data I 0 places) first)
     (λ x. (x.0 ≡ units) × (bits_left x.1 ≡ rest))) →
-    if_ended bits (option_and_then (λ oracle. read (slice_segment_data places) oracle) o) ≡
+    if_ended bits (option_and_then (λ oracle. read (slice_segment_data I 0 places) oracle) o) ≡
     Some units
 begun_units places bits rest units None e h = absurd h
 begun_units places bits rest units (Some first) e h =
-    ended_units bits rest units (read (slice_segment_data places) first) e h
+    ended_units bits rest units (read (slice_segment_data I 0 places) first) e h
 
 pub slice_data-back : SliceDataIsRead
 slice_data-back places qp n units there valid few =
-    let list : List Bin = slice_bins places units in
+    let list : List Bin = slice_bins I 0 places units in
     let code : List ℕ = word I qp list in
     let w = word_ends I qp list in
     let ends : is_slice_end (code ++ zeros n) (zeros n) ≡ true =
     subst (λ c. is_slice_end (c ++ zeros n) (zeros n) ≡ true) (sym w.whole)
     (slice_end w.front n few) in
     begun_units places (code ++ zeros n) (zeros n) units (begin (code ++ zeros n) I qp) ends
-    (script_reads_code_word (List CodingTreeUnit) I qp (slice_segment_data places) list units
-    (zeros n) (reads_slice places units valid) (slice_ends places units there valid))
+    (script_reads_code_word (List CodingTreeUnit) I qp (slice_segment_data I 0 places) list units
+    (zeros n) (reads_slice I 0 places units valid) (slice_ends I 0 places units there valid))
 
 -- ---- a slice
 
@@ -108,20 +110,20 @@ regroup : (a b c d : List ℕ) → (a ++ b) ++ c ++ d ≡ a ++ (b ++ (c ++ d))
 regroup a b c d = simp append_assoc
 
 after_header : (size : Size) (qp n before : ℕ) (units : List CodingTreeUnit) →
-    sites_of size ≢ [] → AreValid (sites_of size) units → n < 8 →
-    length (word I qp (slice_bins (sites_of size) units) ++ zeros n) % 8 ≡ 0 →
+    sites_of size ≢ [] → AreValid I 0 (sites_of size) units → n < 8 →
+    length (word I qp (slice_bins I 0 (sites_of size) units) ++ zeros n) % 8 ≡ 0 →
     slice_after_header size
-    (Some (qp, padding_of before ++ (word I qp (slice_bins (sites_of size) units) ++ zeros n))) ≡
-    Some (shown_picture size units)
+    (Some (qp, padding_of before ++ (word I qp (slice_bins I 0 (sites_of size) units) ++ zeros n))) ≡
+    shown_picture size units
 after_header size qp n before units there valid few whole =
     let places : List Site = sites_of size in
-    let bits : List ℕ = word I qp (slice_bins places units) ++ zeros n in
+    let bits : List ℕ = word I qp (slice_bins I 0 places units) ++ zeros n in
     let behind : behind_alignment (padding_of before ++ bits) ≡ Some bits =
     alignment-back before bits whole in
     let value : slice_data places qp bits ≡ Some units =
     slice_data-back places qp n units there valid few in
-    ap (λ o. option_map (shown_picture size) (option_and_then (slice_data places qp) o)) behind ∙
-    ap (option_map (shown_picture size)) value
+    ap (λ o. option_and_then (shown_picture size) (option_and_then (slice_data places qp) o)) behind ∙
+    ap (option_and_then (shown_picture size)) value
 
 when : {A : Type 0} (t : Bool) (o r : Option A) → t ≡ true → o ≡ r → cond t o None ≡ r
 when t o r p e = rw p e
@@ -130,7 +132,7 @@ pub slices_back : SlicesAreRead
 slices_back size qp units nal there valid small kind given =
     let header : List ℕ = bits_of_fields (idr_slice qp) in
     let pad : List ℕ = padding_of (length header) in
-    let list : List Bin = slice_bins (sites_of size) units in
+    let list : List Bin = slice_bins I 0 (sites_of size) units in
     let code : List ℕ = word I qp list in
     let n : ℕ = missing (length (aligned header ++ code)) in
     let rest : List ℕ = pad ++ (code ++ zeros n) in
@@ -149,7 +151,7 @@ slices_back size qp units nal there valid small kind given =
     ) in
     when (has_type 20 nal)
     (slice_after_header size (read_header read_idr_slice (bits_of nal.payload)))
-    (Some (shown_picture size units)) kind
+    (shown_picture size units) kind
     (ap (λ b. slice_after_header size (read_header read_idr_slice b)) bits ∙
     ap (slice_after_header size) back ∙
     after_header size qp n (length header) units there valid (omega arith) whole)
@@ -165,7 +167,7 @@ filled_one bits =
 
 pub slices_end : SlicesEnd
 slices_end qp places units none =
-    let list : List Bin = slice_bins places units in
+    let list : List Bin = slice_bins I 0 places units in
     let w = word_ends I qp list in
     let header : List ℕ = aligned (bits_of_fields (idr_slice qp)) in
     let parts : header ++ word I qp list ≡ (header ++ w.front) ++ 1 ∷ [] =

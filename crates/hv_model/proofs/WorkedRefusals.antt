@@ -8,7 +8,15 @@ use Rattle.hv_stream_model.specs.Bits.{first_bytes}
 use Rattle.hv_entropy_model.specs.Contexts.{lps_width, next_variable, first_variables}
 use Rattle.hv_entropy_model.specs.CodeWord.{shift_of}
 use Rattle.hv_stream_model.specs.Fields.{log2_of}
-use Rattle.hv_syntax_model.specs.Bins.{sites}
+use Rattle.hv_lemmas.specs.Lists.{tabulate}
+use Rattle.hv_residual_model.specs.Binarization.{truncated_unary, exp_golomb, coeff_abs_level_remaining}
+use Rattle.hv_residual_model.specs.ScanOrder.{scan_order, block_position, block_number}
+use Rattle.hv_residual_model.specs.ResidualSyntax.{last_sig_coeff, sig_coeff_flags, greater1_flags, levels_of_flags, positions, sub_blocks_below, residual_coding}
+use Rattle.hv_unit_model.specs.Trees.{no_levels, no_units}
+use Rattle.hv_unit_model.specs.Sites.{sites, column_of, row_of, address_of, crosses, is_outside}
+use Rattle.hv_unit_model.specs.EarlierUnits.{look_picture}
+use Rattle.hv_unit_model.specs.MostProbableModes.{candModeList, mode_of_remaining}
+use Rattle.hv_unit_model.specs.BlockSyntax.{sao, luma_mode, block_levels, transform_unit, quarters, transform_tree, intra_unit, coding_unit, coding_quadtree}
 use Rattle.hv_stream_model.specs.Units.{NalUnit, IsUnit, IsByteStream, end, more, strip, last_of, units_of}
 use Rattle.hv_types.specs.Video.{crop}
 use Rattle.hv_model.specs.Reconstruction.{grey}
@@ -71,7 +79,7 @@ video_parameter_set = refl
 
 -- and of the sequence parameter set
 sequence_parameter_set : all_refused 216 248 ≡ true
-unfolding first_bytes lps_width next_variable first_variables shift_of log2_of sites
+unfolding first_bytes lps_width next_variable first_variables shift_of log2_of sites sao coding_quadtree coding_unit intra_unit luma_mode candModeList mode_of_remaining truncated_unary transform_tree quarters transform_unit block_levels no_units no_levels look_picture column_of row_of address_of crosses is_outside residual_coding last_sig_coeff sig_coeff_flags greater1_flags levels_of_flags positions sub_blocks_below coeff_abs_level_remaining exp_golomb scan_order block_position block_number tabulate
 sequence_parameter_set = refl
 
 -- and of the picture parameter set
@@ -96,7 +104,7 @@ slice_header = refl
 
 -- the code word, and the zeros behind it
 code_word : all_refused 608 32 ≡ true
-unfolding first_bytes lps_width next_variable first_variables shift_of log2_of sites
+unfolding first_bytes lps_width next_variable first_variables shift_of log2_of sites sao coding_quadtree coding_unit intra_unit luma_mode candModeList mode_of_remaining truncated_unary transform_tree quarters transform_unit block_levels no_units no_levels look_picture column_of row_of address_of crosses is_outside residual_coding last_sig_coeff sig_coeff_flags greater1_flags levels_of_flags positions sub_blocks_below coeff_abs_level_remaining exp_golomb scan_order block_position block_number tabulate
 code_word = refl
 
 -- each bit but that one
@@ -128,12 +136,12 @@ turned_bit_refused i h other = refused (decode_of (turned i eighty_bytes)) (turn
 -- ---- other bytes
 
 last_byte_missing : decode_of (take 79 eighty_bytes) ≡ None
-unfolding first_bytes lps_width next_variable first_variables shift_of log2_of sites
+unfolding first_bytes lps_width next_variable first_variables shift_of log2_of sites sao coding_quadtree coding_unit intra_unit luma_mode candModeList mode_of_remaining truncated_unary transform_tree quarters transform_unit block_levels no_units no_levels look_picture column_of row_of address_of crosses is_outside residual_coding last_sig_coeff sig_coeff_flags greater1_flags levels_of_flags positions sub_blocks_below coeff_abs_level_remaining exp_golomb scan_order block_position block_number tabulate
 last_byte_missing = refl
 
 bytes_behind : list_all (λ byte. is_refused (decode_of (eighty_bytes ++ byte ∷ [])))
     (numbers 255 1) ≡ true
-unfolding first_bytes lps_width next_variable first_variables shift_of log2_of sites
+unfolding first_bytes lps_width next_variable first_variables shift_of log2_of sites sao coding_quadtree coding_unit intra_unit luma_mode candModeList mode_of_remaining truncated_unary transform_tree quarters transform_unit block_levels no_units no_levels look_picture column_of row_of address_of crosses is_outside residual_coding last_sig_coeff sig_coeff_flags greater1_flags levels_of_flags positions sub_blocks_below coeff_abs_level_remaining exp_golomb scan_order block_position block_number tabulate
 bytes_behind = refl
 
 -- a byte other than 0 behind them
@@ -176,7 +184,7 @@ exchanged_refused :
     (video ++ slice ++ picture ++ sequence) ∷
     (video ++ sequence ++ slice ++ picture) ∷
     []) ≡ true
-unfolding first_bytes lps_width next_variable first_variables shift_of log2_of sites
+unfolding first_bytes lps_width next_variable first_variables shift_of log2_of sites sao coding_quadtree coding_unit intra_unit luma_mode candModeList mode_of_remaining truncated_unary transform_tree quarters transform_unit block_levels no_units no_levels look_picture column_of row_of address_of crosses is_outside
 exchanged_refused = refl
 
 -- ---- zero bytes

@@ -1,5 +1,5 @@
 -- A grey picture of 64x64 and its 80 bytes, computed by the definitions.
-use Rattle.std.proofs.Common.{◌≡◌, ℕ, List, [], ◌∷◌, refl, map}
+use Rattle.std.proofs.Common.{◌≡◌, ℕ, List, [], ◌∷◌, refl}
 use Rattle.std.specs.Prelude.{Some, None}
 use Rattle.hv_types.specs.declared.settings.Settings.{Settings}
 use Rattle.hv_types.specs.declared.settings.Emit.TheVariants.{Stream}
@@ -8,8 +8,14 @@ use Rattle.hv_stream_model.specs.Bits.{first_bytes}
 use Rattle.hv_entropy_model.specs.Contexts.{lps_width, next_variable, first_variables}
 use Rattle.hv_entropy_model.specs.CodeWord.{shift_of}
 use Rattle.hv_stream_model.specs.Fields.{log2_of}
-use Rattle.hv_syntax_model.specs.Bins.{sites}
-use Rattle.hv_group_model.specs.Structure.{coding}
+use Rattle.hv_residual_model.specs.Binarization.{truncated_unary, truncated_unary_bins}
+use Rattle.hv_unit_model.specs.Trees.{no_levels, no_units}
+use Rattle.hv_unit_model.specs.Sites.{sites, column_of, row_of, address_of, crosses, is_outside}
+use Rattle.hv_unit_model.specs.EarlierUnits.{look_picture}
+use Rattle.hv_unit_model.specs.MostProbableModes.{candModeList, mode_of_remaining}
+use Rattle.hv_unit_model.specs.BlockSyntax.{sao, luma_mode, block_levels, transform_unit, quarters, transform_tree, intra_unit, coding_unit, coding_quadtree}
+use Rattle.hv_unit_model.specs.Bins.{sao_bins, luma_mode_bins, transform_unit_bins, quarters_bins, transform_tree_bins, predicted_bins, bins_of_node}
+use Rattle.hv_model.specs.ModeDecision.{blank_node}
 use Rattle.hv_model.specs.Reconstruction.{grey}
 use Rattle.hv_model.specs.Encoding.{encode_of}
 use Rattle.hv_model.specs.Decoding.{decode_of}
@@ -39,11 +45,11 @@ eighty_bytes =
     0 ∷ 0 ∷ 0 ∷ 1 ∷ 0x28 ∷ 0x01 ∷ 0xAF ∷ 0xC0 ∷ 0xE8 ∷ 0x73 ∷ 0x7F ∷ 0x80 ∷ []
 
 grey_picture_of_eighty_bytes : encode_of one_block (grey 64 64 ∷ []) ≡ eighty_bytes
-unfolding first_bytes lps_width next_variable first_variables shift_of log2_of sites
+unfolding first_bytes lps_width next_variable first_variables shift_of log2_of sites blank_node sao_bins bins_of_node predicted_bins luma_mode_bins candModeList transform_tree_bins quarters_bins transform_unit_bins truncated_unary_bins no_units no_levels look_picture column_of row_of address_of crosses is_outside
 grey_picture_of_eighty_bytes = refl
 
 pub eighty_bytes_decoded : decode_of eighty_bytes ≡ Some (crop (grey 64 64) 64 64 ∷ [])
-unfolding first_bytes lps_width next_variable first_variables shift_of log2_of sites
+unfolding first_bytes lps_width next_variable first_variables shift_of log2_of sites sao coding_quadtree coding_unit intra_unit luma_mode candModeList mode_of_remaining truncated_unary transform_tree quarters transform_unit block_levels no_units no_levels look_picture column_of row_of address_of crosses is_outside
 eighty_bytes_decoded = refl
 
 no_pictures_without_units : decode_of [] ≡ Some []

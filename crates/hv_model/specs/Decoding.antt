@@ -1,6 +1,6 @@
 -- Decoding (clauses 7 to 9 and Annex B): the pictures that a byte stream shows, in output order;
--- none where it isn't a stream of this profile. So far each picture is an IDR picture with blank
--- trees.
+-- none where it isn't a stream of this profile. So far each picture is an IDR picture, and there are
+-- samples of blank units alone (`unfiltered_picture`).
 use Rattle.std.specs.Prelude.{ℕ, ◌+◌, ◌-◌, ◌*◌, ◌%◌, Bool, false, cond, not, nat_eq, nat_lt, nat_le, ◌&&◌, ◌||◌, List, [], ◌∷◌, length, take, drop, filter, replicate, Option, Some, None, option_and_then, option_map}
 use Rattle.std.specs.List.{list_all}
 use Rattle.hv_types.specs.declared.bins.SliceKind.TheVariants.{I}
@@ -11,9 +11,9 @@ use Rattle.hv_stream_model.specs.Fields.{HeaderScript, read_header}
 use Rattle.hv_stream_model.specs.Units.{NalUnit, units_of, is_zero, same_bytes, last_of}
 use Rattle.hv_stream_model.specs.Headers.{Size, read_vps, read_sps, read_pps, read_idr_slice}
 use Rattle.hv_entropy_model.specs.Oracle.{Oracle, begin, read, bits_left}
-use Rattle.hv_syntax_model.specs.Trees.{CodingTreeUnit}
-use Rattle.hv_syntax_model.specs.Bins.{Site, sites}
-use Rattle.hv_syntax_model.specs.BlockSyntax.{slice_segment_data}
+use Rattle.hv_unit_model.specs.Trees.{CodingTreeUnit}
+use Rattle.hv_unit_model.specs.Sites.{Site, sites}
+use Rattle.hv_unit_model.specs.BlockSyntax.{slice_segment_data}
 use Rattle.hv_model.specs.Reconstruction.{reconstructed}
 
 -- ---- parameter sets
@@ -60,24 +60,28 @@ if_ended bits (Some r) = cond (is_slice_end bits (bits_left r.1)) (Some r.0) Non
 abbrev pub slice_data : List Site → ℕ → List ℕ → Option (List CodingTreeUnit)
 slice_data sites qp bits =
     if_ended bits
-    (option_and_then (λ oracle. read (slice_segment_data sites) oracle) (begin bits I qp))
+    (option_and_then (λ oracle. read (slice_segment_data I 0 sites) oracle) (begin bits I qp))
 
 -- the blocks of a picture
 abbrev pub sites_of : Size → List Site
 sites_of size = sites size.pic_width_in_luma_samples size.pic_height_in_luma_samples
 
 -- what is shown of the picture, cropped by the conformance window
-abbrev pub shown_picture : Size → List CodingTreeUnit → Picture
+abbrev pub cropped : Size → Picture → Picture
+cropped size picture =
+    crop picture
+    (size.pic_width_in_luma_samples - 2 * size.conf_win_right_offset)
+    (size.pic_height_in_luma_samples - 2 * size.conf_win_bottom_offset)
+
+abbrev pub shown_picture : Size → List CodingTreeUnit → Option Picture
 shown_picture size units =
-    let width = size.pic_width_in_luma_samples in
-    let height = size.pic_height_in_luma_samples in
-    crop (reconstructed width height units)
-    (width - 2 * size.conf_win_right_offset) (height - 2 * size.conf_win_bottom_offset)
+    option_map (cropped size)
+    (reconstructed size.pic_width_in_luma_samples size.pic_height_in_luma_samples units)
 
 abbrev pub slice_after_header : Size → Option (ℕ × List ℕ) → Option Picture
 slice_after_header size None = None
 slice_after_header size (Some header) =
-    option_map (shown_picture size)
+    option_and_then (shown_picture size)
     (option_and_then (slice_data (sites_of size) header.0) (behind_alignment header.1))
 
 -- an IDR picture: a unit of type IDR_N_LP with its slice

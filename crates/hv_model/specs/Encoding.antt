@@ -13,25 +13,26 @@ use Rattle.hv_stream_model.specs.Fields.{bits_of_fields, aligned}
 use Rattle.hv_stream_model.specs.Units.{unit_of_payload}
 use Rattle.hv_stream_model.specs.Headers.{parameter_sets, idr_slice}
 use Rattle.hv_group_model.specs.Structure.{qp_at}
-use Rattle.hv_syntax_model.specs.Trees.{Off, CodingTreeUnit}
-use Rattle.hv_syntax_model.specs.Bins.{Site, sites, is_empty, slice_bins}
+use Rattle.hv_unit_model.specs.Trees.{CodingTreeUnit}
+use Rattle.hv_unit_model.specs.Sites.{Site, sites}
+use Rattle.hv_unit_model.specs.Validity.{is_empty}
+use Rattle.hv_unit_model.specs.Bins.{slice_bins}
 use Rattle.hv_entropy_model.specs.CodeWord.{word}
-use Rattle.hv_model.specs.ModeDecision.{best}
-use Rattle.hv_model.specs.Reconstruction.{reconstructed}
+use Rattle.hv_model.specs.ModeDecision.{no_offsets, best}
+use Rattle.hv_model.specs.Reconstruction.{grey, filtered_picture}
 
 -- ---- a picture
 
--- the coding tree units of these blocks: sample adaptive offset is off, and the last one ends the
--- slice
+-- the coding tree units of these blocks, of which the last one ends the slice
 abbrev pub coded_units : List Site → List CodingTreeUnit
 coded_units [] = []
 coded_units (site ∷ sites) =
-    record { sao = Off; tree = best site; end_of_slice_segment_flag = is_empty sites } ∷
+    record { sao = no_offsets; tree = best site; end_of_slice_segment_flag = is_empty sites } ∷
     coded_units sites
 
 -- the slice data of a picture with these blocks
 abbrev pub slice_data_of : ℕ → List Site → List ℕ
-slice_data_of qp sites = word I qp (slice_bins sites (coded_units sites))
+slice_data_of qp sites = word I qp (slice_bins I 0 sites (coded_units sites))
 
 -- the slice of an IDR picture: its header, a byte_alignment, and the code word with zeros to the
 -- byte
@@ -47,10 +48,12 @@ picture_sites cfg = sites (padded_width cfg) (padded_height cfg)
 abbrev pub picture_unit : Settings → Picture → List ℕ
 picture_unit cfg picture = unit_of_payload 20 (slice_payload (qp_at cfg.qp 0) (picture_sites cfg))
 
--- what a decoder makes of it, before it is cropped
+-- its reconstruction before it is cropped: where nothing is chosen, every sample is the middle one
+-- before the in-loop filters
 abbrev pub recon_picture : Settings → Picture → Picture
 recon_picture cfg picture =
-    reconstructed (padded_width cfg) (padded_height cfg) (coded_units (picture_sites cfg))
+    filtered_picture (coded_units (picture_sites cfg))
+    (grey (padded_width cfg) (padded_height cfg))
 
 -- ---- a video
 

@@ -13,15 +13,15 @@ pub fn alignment_is_read()
     ensures { AlignmentIsRead }
 {}
 
-/// The slice data (7.3.8.1) of at least one coding tree block, the code word of coding tree units
-/// that may be coded there with zeros to the byte, is read as these units.
+/// The slice data (7.3.8.1) of at least one coding tree block of an I slice, the code word of coding
+/// tree units that may be coded there with zeros to the byte, is read as these units.
 pub fn slice_data_is_read()
     ensures { SliceDataIsRead }
 {}
 
 /// An IDR picture's unit, made with a slice header (7.3.6) and the slice data of all coding tree
 /// blocks of a picture of some size, shows the picture of their coding tree units, cropped by the
-/// conformance window.
+/// conformance window. So far it shows none where something was chosen in them.
 pub fn slices_are_read()
     ensures { SlicesAreRead }
 {}

@@ -1,2 +1,3 @@
+mod BlankBinLemmas
 mod PuttingLemmas
 mod SliceBinLemmas

@@ -7,13 +7,12 @@ ghost use Rattle.hv_stream_model.specs.Fields.{aligned, bits_of_fields};
 ghost use Rattle.hv_stream_model.specs.Units.{last_of};
 ghost use Rattle.hv_stream_model.specs.Headers.{idr_slice as idr_slice_of};
 ghost use Rattle.hv_group_model.specs.Structure.{qp_at};
-ghost use Rattle.hv_syntax_model.specs.Trees.{Off, blank_tree};
-ghost use Rattle.hv_syntax_model.specs.Bins.{bin, site_at, sites, merge_bins, part_bins};
-ghost use Rattle.hv_syntax_model.specs.Bins.{prediction_bins, luma_bins, transform_bins, unit_bins};
-ghost use Rattle.hv_syntax_model.specs.Bins.{split_bins, tree_bins, bins, slice_bins};
-ghost use Rattle.hv_model.specs.ModeDecision.{best};
-ghost use Rattle.hv_model.specs.Encoding.{coded_units, picture_sites, slice_data_of};
+ghost use Rattle.hv_unit_model.specs.Sites.{sites};
+ghost use Rattle.hv_model.specs.Encoding.{picture_sites, slice_data_of};
 ghost use Rattle.hv_model.specs.Encoding.{slice_payload as slice_payload_of};
+ghost use Rattle.hv_packet.specs.BlankBins.{bin, part_bins, prediction_bins, luma_bins};
+ghost use Rattle.hv_packet.specs.BlankBins.{transform_bins, unit_bins, split_bins, node_bins};
+ghost use Rattle.hv_packet.specs.BlankBins.{merge_bins, block_bins, picture_bins};
 
 use hv_bits::BitWriter;
 use hv_cabac::{BinSink, Ctx, CtxTable, Encoder, SliceKind};
@@ -21,8 +20,8 @@ use hv_decision::Group;
 use hv_model::{coded_units_are_valid, slice_data_ends, slices_end};
 use hv_slice::write_slice_header;
 use hv_stream_model::{aligned_bits_are_whole, bytes_append};
-use hv_syntax_model::sites_are_there;
 use hv_types::NoMemory;
+use hv_unit_model::sites_are_there;
 use std::alloc::Global;
 
 /// The side of a coding tree block in luma samples (CtbSizeY).
@@ -73,8 +72,7 @@ fn slice_data(alloc: Global, qp: u8, width: u32, height: u32) -> Result<Vec<u8>,
 fn put_slice_data<B: BinSink>(sink: &mut B, width: u32, height: u32)
     requires width { width ≤ 4096 }
     requires height { height ≤ 2176 }
-    ensures { Puts B.stands_for sink.old sink.new
-        (slice_bins (sites width height) (coded_units (sites width height))) }
+    ensures { Puts B.stands_for sink.old sink.new (picture_bins width height) }
 {
     let columns = width.div_ceil(CTB_SIDE);
     let count = columns * height.div_ceil(CTB_SIDE);
@@ -97,11 +95,8 @@ fn put_coding_tree_unit<B: BinSink>(
 )
     requires across { 64 * column < width }
     requires down { 64 * row < height }
-    ensures { Puts B.stands_for sink.old sink.new (bins (site_at width height column row) record {
-      sao = Off;
-      tree = best (site_at width height column row);
-      end_of_slice_segment_flag = is_last;
-    }) }
+    ensures { Puts B.stands_for sink.old sink.new
+        (block_bins width height column row is_last) }
 {
     put_merge(sink, column > 0);
     put_merge(sink, row > 0);
@@ -131,7 +126,7 @@ fn put_merge<B: BinSink>(sink: &mut B, is_there: bool)
 /// nothing is coded of one outside.
 fn put_quadtree<B: BinSink>(sink: &mut B, size: u8, width: u32, height: u32)
     requires size { size ≤ 3 }
-    ensures { Puts B.stands_for sink.old sink.new (tree_bins size (blank_tree size width height)) }
+    ensures { Puts B.stands_for sink.old sink.new (node_bins size width height) }
 {
     if width == 0 || height == 0 {
         return;

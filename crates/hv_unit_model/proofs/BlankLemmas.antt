@@ -1,5 +1,5 @@
--- A slice of blank trees has the bins that the narrow definitions give it (7.3.8): no unit lies
--- deeper than its neighbours at the left and above, and all modes are DC.
+-- Where every unit has mode DC, and is split just as the picture's edge has it, no unit at the left
+-- or above a unit lies deeper (9.3.4.2.2), and the candidates of its mode are those of DC (8.4.2).
 use Rattle.std.proofs.Common.{◌≡◌, ℕ, zero, suc, ◌+◌, ◌-◌, ◌*◌, ◌/◌, ◌%◌, ◌<◌, ◌≤◌, Bool, true, false, cond, List, [], ◌∷◌, ◌++◌, length, replicate, refl, sym, ◌∙◌, subst, arith, inl, inr, pow_pos}
 use Rattle.std.specs.Prelude.{nat_eq, nat_lt, nat_le, ◌&&◌, ◌⊎◌, slice_index_or}
 use Rattle.std.proofs.lemmas.Nat.{mod-mul-add, div-mul-add}

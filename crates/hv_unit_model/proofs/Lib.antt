@@ -1,5 +1,4 @@
 pub mod BlankLemmas
-pub mod BlankSliceLemmas
 pub mod ContextLemmas
 pub mod FlagLemmas
 pub mod GivenLemmas

@@ -6,4 +6,3 @@ pub mod Validity
 pub mod BlockSyntax
 pub mod Bins
 pub mod UnitLaws
-pub mod BlankLaws

@@ -3,10 +3,8 @@
 //! carries a law of the definitions as its contract.
 #![tactic(auto)]
 
-mod blank_laws;
 mod unit_laws;
 
-pub use blank_laws::blank_slices_agree;
 pub use unit_laws::{
     addresses_are_places, coding_tree_units_are_read, nodes_are_read_back, nodes_are_squares,
     nodes_ask_for_variables_that_are_there, nodes_have_their_squares, offsets_are_read_back,

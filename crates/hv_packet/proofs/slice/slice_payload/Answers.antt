@@ -6,7 +6,7 @@ use Rattle.hv_stream_model.specs.Fields.{aligned, bits_of_fields}
 use Rattle.hv_group_model.specs.Structure.{qp_at}
 use Rattle.hv_stream_model.specs.Units.{last_of}
 use Rattle.hv_stream_model.specs.Headers.{idr_slice}
-use Rattle.hv_syntax_model.specs.Bins.{sites}
+use Rattle.hv_unit_model.specs.Sites.{sites}
 use Rattle.hv_types.specs.declared.settings.Settings.{Settings}
 use Rattle.hv_types.specs.Configuration.{padded_width, padded_height}
 use Rattle.hv_model.specs.Encoding.{coded_units, slice_data_of, slice_payload, picture_sites}

@@ -1,28 +1,28 @@
--- A slice of blank trees has the bins that the narrow definitions give it (7.3.8).
+-- The bins of a picture in which nothing is chosen are those of its slice data (7.3.8).
 use Rattle.std.proofs.Common.{◌≡◌, ℕ, zero, suc, ◌+◌, ◌-◌, ◌*◌, ◌/◌, ◌%◌, ◌^◌, ◌<◌, ◌≤◌, Bool, true, false, cond, List, [], ◌∷◌, ◌++◌, length, map, replicate, refl, sym, ap₂, ◌∙◌, subst, arith, append_assoc, length-append, inl, inr, pow_pos, append-nil}
 use Rattle.std.specs.Prelude.{nat_eq, nat_lt, nat_le, ◌||◌, ◌⊎◌}
 use Rattle.std.proofs.lemmas.List.{map-append}
-use Rattle.std.proofs.lemmas.Bool.{cases_lt, or_parts, ltb-false}
+use Rattle.std.proofs.lemmas.Bool.{cases_lt, or_parts, ltb-false, ne_eqb}
 use Rattle.std.proofs.lemmas.Bool.Decides.{nat_tests}
 use Rattle.hv_types.specs.declared.bins.SliceKind.TheVariants.{I}
-use Rattle.hv_types.specs.declared.bins.CtxTable.TheVariants.{Split as SplitFlag, ChromaMode, SaoType}
+use Rattle.hv_types.specs.declared.bins.CtxTable.TheVariants.{Split as SplitFlag, ChromaMode}
+use Rattle.hv_types.specs.Bins.{Bin, terminate_bin}
 use Rattle.hv_plan.specs.declared.offsets.SaoKind.TheVariants.{Off}
-use Rattle.hv_types.specs.Bins.{Bin, context_bin, terminate_bin}
 use Rattle.hv_residual_model.specs.UnitBins.{UnitBin, slice_bin}
 use Rattle.hv_residual_model.specs.Binarization.{truncated_unary_bins}
-use Rattle.hv_syntax_model.specs.Trees.{Tree as NarrowTree, Leaf as NarrowLeaf, Split as NarrowSplit, Outside as NarrowOutside, Intra as NarrowIntra, Offsets as NarrowOffsets, Off as NarrowOff, CodingTreeUnit as NarrowUnit, is_outside as narrow_outside, crosses as narrow_crosses, blank_tree, dc_mode}
-use Rattle.hv_syntax_model.specs.Bins.{site as narrow_site, sites_from as narrow_sites_from, sites as narrow_sites, sao_bins as narrow_sao_bins, merge_bins as narrow_merge_bins, tree_bins, slice_bins as narrow_bins, AreValid as AreNarrow, is_empty as narrow_is_empty}
-use Rattle.hv_unit_model.specs.Trees.{Intra, depth_of, greatest_size, side, no_levels, no_units}
-use Rattle.hv_unit_model.specs.Sites.{Site, site, sites_from, sites, blocks_over, has_left, has_above, x0, y0, column_of, row_of, squares, is_outside, crosses}
+use Rattle.hv_unit_model.specs.Trees.{Tree, Leaf, Split, Outside, Intra, depth_of, greatest_size, side, no_levels, no_units}
+use Rattle.hv_unit_model.specs.Sites.{Site, site, sites, sites_from, blocks_over, has_left, has_above, x0, y0, column_of, row_of, squares, is_outside, crosses}
 use Rattle.hv_unit_model.specs.EarlierUnits.{Square, Unavailable, Coded, squares_of, after, in_picture, split_ctxInc}
-use Rattle.hv_unit_model.specs.MostProbableModes.{candidates}
-use Rattle.hv_unit_model.specs.Validity.{IsValidNode, AreOffsets, AreValid, is_empty}
-use Rattle.hv_unit_model.specs.Bins.{bin, merge_bins, sao_type_bins, luma_mode_bins, transform_tree_bins, transform_unit_bins, quarters_bins, predicted_bins, bins_of_node, sao_bins, slice_bins_from}
-use Rattle.hv_unit_model.specs.BlankLaws.{widened, widened_unit, no_offsets, BlankSlicesAgree}
+use Rattle.hv_unit_model.specs.MostProbableModes.{dc, candidates}
+use Rattle.hv_unit_model.specs.Validity.{IsValidNode, is_empty}
+use Rattle.hv_unit_model.specs.Bins.{bin, merge_bins, sao_type_bins, sao_bins, luma_mode_bins, transform_unit_bins, quarters_bins, transform_tree_bins, predicted_bins, bins_of_node, slice_bins, slice_bins_from}
 use Rattle.hv_unit_model.proofs.TransformLemmas.{no_units_valid}
 use Rattle.hv_unit_model.proofs.SquareLemmas.{length-squares}
 use Rattle.hv_unit_model.proofs.NodeLemmas.{IsNode, around, square_in_node, around_own, child_of, squares_above_0, below_4_times}
 use Rattle.hv_unit_model.proofs.BlankLemmas.{IsBlank, AllBlank, LiesInside, none_blank, blank_nowhere, blank_then, blank_alike, ParentsCross, leaf_square, left_is_flat, above_is_flat, dc_candidates}
+use Rattle.hv_model.specs.ModeDecision.{no_offsets, blank_node, best}
+use Rattle.hv_model.specs.Encoding.{coded_units}
+use Rattle.hv_packet.specs.BlankBins as put
 
 -- ---- what is left of a picture, and where a node begins
 
@@ -34,18 +34,24 @@ lt_left a x s h = grind (arith, nat_tests, h)
 
 -- ---- the bins of a blank unit
 
-leaf_bins_by : (size ctxInc : ℕ) (list : List ℕ) (crossing : Bool) → suc size ≤ 3 →
+abbrev flat : ℕ → Tree
+flat size = Leaf (Intra dc) (no_units size)
+
+abbrev flat_bins : ℕ → List Bin
+flat_bins size = put.split_bins size ++ put.unit_bins size
+
+flat_bins_by : (size ctxInc : ℕ) (list : List ℕ) (crossing : Bool) → suc size ≤ 3 →
     crossing ≡ false → ctxInc ≡ 0 → list ≡ 0 ∷ 1 ∷ 26 ∷ [] →
     map slice_bin
     (cond crossing [] (bin SplitFlag ctxInc false ∷ []) ++
-    (luma_mode_bins list 1 ++
-    (bin ChromaMode 0 false ∷ transform_tree_bins (Intra 1) (suc size) (no_units (suc size))))) ≡
-    tree_bins (suc size) (NarrowLeaf (NarrowIntra dc_mode))
+    (luma_mode_bins list dc ++
+    (bin ChromaMode 0 false ∷ transform_tree_bins (Intra dc) (suc size) (no_units (suc size))))) ≡
+    flat_bins (suc size)
 unfolding luma_mode_bins truncated_unary_bins transform_tree_bins quarters_bins transform_unit_bins no_units no_levels
-leaf_bins_by zero ctxInc list crossing few c n l = rw (c, n, l) refl
-leaf_bins_by (suc zero) ctxInc list crossing few c n l = rw (c, n, l) refl
-leaf_bins_by (suc (suc zero)) ctxInc list crossing few c n l = rw (c, n, l) refl
-leaf_bins_by (suc (suc (suc size))) ctxInc list crossing few c n l = absurd (omega (arith, few))
+flat_bins_by zero ctxInc list crossing few c n l = rw (c, n, l) refl
+flat_bins_by (suc zero) ctxInc list crossing few c n l = rw (c, n, l) refl
+flat_bins_by (suc (suc zero)) ctxInc list crossing few c n l = rw (c, n, l) refl
+flat_bins_by (suc (suc (suc size))) ctxInc list crossing few c n l = absurd (omega (arith, few))
 
 module _ (width height index : ℕ) (done : List Square) where
   here : Site
@@ -57,13 +63,14 @@ module _ (width height index : ℕ) (done : List Square) where
   down : ℕ → ℕ
   down address = height - y0 (site width height index) address
 
-  -- a node with the narrow tree that it has
-  record IsWidened (size address : ℕ) (earlier : List Square) (tree : NarrowTree) : Type 0 where
-    valid : IsValidNode I 0 (site width height index) size address (widened size tree)
+  -- a node with the bins that it has
+  record IsCoded (size address : ℕ) (earlier : List Square) (tree : Tree) (list : List Bin) :
+      Type 0 where
+    valid : IsValidNode I 0 (site width height index) size address tree
     same : map slice_bin
-        (bins_of_node (in_picture I 0 (site width height index) done) size address earlier
-        (widened size tree)) ≡ tree_bins size tree
-    blank : AllBlank width height (done ++ after size earlier (widened size tree))
+        (bins_of_node (in_picture I 0 (site width height index) done) size address earlier tree) ≡
+        list
+    blank : AllBlank width height (done ++ after size earlier tree)
 
   -- behind these squares of the block
   record IsBehind (address : ℕ) (earlier : List Square) : Type 0 where
@@ -71,7 +78,7 @@ module _ (width height index : ℕ) (done : List Square) where
     number : length (done ++ earlier) ≡ 64 * index + address
 
   outside_same : (address : ℕ) →
-      is_outside (site width height index) address ≡ narrow_outside (across address) (down address)
+      is_outside (site width height index) address ≡ put.is_outside (across address) (down address)
   unfolding is_outside across down
   outside_same address =
       ap₂ (λ a b. a || b) (le_left width (x0 (site width height index) address))
@@ -79,7 +86,7 @@ module _ (width height index : ℕ) (done : List Square) where
 
   crosses_same : (size address : ℕ) →
       crosses (site width height index) size address ≡
-      narrow_crosses size (across address) (down address)
+      put.crosses size (across address) (down address)
   unfolding crosses across down
   crosses_same size address =
       let some : 1 ≤ side size = let h = pow_pos size in omega (arith, h) in
@@ -99,8 +106,7 @@ module _ (width height index : ℕ) (done : List Square) where
   -- ---- outside
 
   outside_node : (size address : ℕ) (earlier : List Square) → IsBehind address earlier →
-      is_outside (site width height index) address ≡ true →
-      IsWidened size address earlier NarrowOutside
+      is_outside (site width height index) address ≡ true → IsCoded size address earlier Outside []
   unfolding IsValidNode bins_of_node
   outside_node zero address earlier behind outside = record {
     valid = outside;
@@ -120,11 +126,11 @@ module _ (width height index : ℕ) (done : List Square) where
   blank_behind_unit : (size address : ℕ) (earlier : List Square) → IsNode size address →
       ParentsCross width height index size address → IsBehind address earlier →
       AllBlank width height
-      (done ++ (earlier ++ replicate (squares size) (Coded (depth_of size) (Intra 1))))
+      (done ++ (earlier ++ replicate (squares size) (Coded (depth_of size) (Intra dc))))
   blank_behind_unit size address earlier node parents behind =
-      more_blank earlier (squares size) (Coded (depth_of size) (Intra 1)) behind.blank
+      more_blank earlier (squares size) (Coded (depth_of size) (Intra dc)) behind.blank
       (λ j below.
-      subst (λ at. IsBlank width height (at + j) (Coded (depth_of size) (Intra 1)))
+      subst (λ at. IsBlank width height (at + j) (Coded (depth_of size) (Intra dc)))
       (sym behind.number) (leaf_square width height index size address j node below parents))
 
   inside_of : (size address : ℕ) → IsNode size address →
@@ -144,20 +150,17 @@ module _ (width height index : ℕ) (done : List Square) where
       ParentsCross width height index (suc size) address → IsBehind address earlier →
       is_outside (site width height index) address ≡ false →
       crosses (site width height index) (suc size) address ≡ false →
-      IsWidened (suc size) address earlier (NarrowLeaf (NarrowIntra dc_mode))
+      IsCoded (suc size) address earlier (flat (suc size)) (flat_bins (suc size))
   unfolding IsValidNode bins_of_node predicted_bins
   unit_node size address earlier node parents behind inside fits =
       let lies = inside_of (suc size) address node fits in
-      let left = left_is_flat width height done earlier index (suc size) address behind.blank lies
-      in
-      let above = above_is_flat width height done earlier index (suc size) address behind.blank lies
-      in
+      let left = left_is_flat width height done earlier index (suc size) address behind.blank lies in
+      let above = above_is_flat width height done earlier index (suc size) address behind.blank lies in
       let few = node.few in
       record {
         valid = (inside, fits, omega arith, no_units_valid (suc size));
-        same = leaf_bins_by size
-            (split_ctxInc (in_picture I 0 (site width height index) done) (suc size) address
-            earlier)
+        same = flat_bins_by size
+            (split_ctxInc (in_picture I 0 (site width height index) done) (suc size) address earlier)
             (candidates (in_picture I 0 (site width height index) done) address earlier)
             (crosses (site width height index) (suc size) address) few fits
             (ap₂ (λ a b. a + b) left above)
@@ -168,7 +171,7 @@ module _ (width height index : ℕ) (done : List Square) where
   smallest_node : (address : ℕ) (earlier : List Square) → IsNode zero address →
       ParentsCross width height index zero address → IsBehind address earlier →
       is_outside (site width height index) address ≡ false →
-      IsWidened zero address earlier (NarrowLeaf (NarrowIntra dc_mode))
+      IsCoded zero address earlier (flat zero) (flat_bins zero)
   unfolding IsValidNode bins_of_node predicted_bins luma_mode_bins truncated_unary_bins transform_tree_bins transform_unit_bins no_units no_levels
   smallest_node address earlier node parents behind inside = record {
     valid = (inside, refl, omega arith, no_units_valid zero);
@@ -200,15 +203,13 @@ module _ (width height index : ℕ) (done : List Square) where
       subst (λ at. IsPart size address at w h) place
       (record {
         node = child.node;
-        parents = λ greater above most. by_size greater most inner (cases_lt (suc size) greater)
-            above;
+        parents = λ greater above most. by_size greater most inner (cases_lt (suc size) greater) above;
         column = omega (arith, column, to_right);
         row = omega (arith, row, below);
       }) where
         by_size : (greater : ℕ) → greater ≤ 3 → k * squares size < squares (suc size) →
             (suc size < greater) ⊎ (greater ≤ suc size) → size < greater →
-            crosses (site width height index) greater (around greater (address + k * squares size))
-            ≡
+            crosses (site width height index) greater (around greater (address + k * squares size)) ≡
             true
         by_size greater most inner (inl above) over =
             let e = (square_in_node (suc size) greater address (k * squares size) node
@@ -220,33 +221,36 @@ module _ (width height index : ℕ) (done : List Square) where
             let e = (square_in_node (suc size) (suc size) address (k * squares size) node
             (omega arith) few_size inner).1 in
             subst
-            (λ g. crosses (site width height index) g (around g (address + k * squares size)) ≡
-            true)
+            (λ g. crosses (site width height index) g (around g (address + k * squares size)) ≡ true)
             is_parent (rw (e, around_own (suc size) address node) crossing)
+
+  abbrev blank_at : ℕ → ℕ → Tree
+  blank_at size address = blank_node (site width height index) size address
 
   -- what is to be shown of all nodes of a size
   Blanks : ℕ → Type 0
   Blanks size =
       (address : ℕ) (earlier : List Square) → IsNode size address →
       ParentsCross width height index size address → IsBehind address earlier →
-      IsWidened size address earlier (blank_tree size (across address) (down address))
+      IsCoded size address earlier (blank_at size address)
+      (put.node_bins size (across address) (down address))
 
   part_node : (size address c w h : ℕ) (earlier : List Square) → Blanks size →
       IsPart size address c w h → IsBehind c earlier →
-      IsWidened size c earlier (blank_tree size w h)
+      IsCoded size c earlier (blank_at size c) (put.node_bins size w h)
   unfolding Blanks
   part_node size address c w h earlier smaller part behind =
-      subst (λ v. IsWidened size c earlier (blank_tree size v h)) part.column
-      (subst (λ v. IsWidened size c earlier (blank_tree size (across c) v)) part.row
-      (smaller c earlier part.node part.parents behind))
+      subst (λ v. IsCoded size c earlier (blank_at size c) (put.node_bins size v h)) part.column
+      (subst (λ v. IsCoded size c earlier (blank_at size c) (put.node_bins size (across c) v))
+      part.row (smaller c earlier part.node part.parents behind))
 
-  behind_next : (size c next : ℕ) (earlier : List Square) (tree : NarrowTree) →
-      IsBehind c earlier → IsWidened size c earlier tree → c + squares size ≡ next →
-      IsBehind next (after size earlier (widened size tree))
-  behind_next size c next earlier tree behind node place =
-      let these : List Square = squares_of size (widened size tree) in
+  behind_next : (size c next : ℕ) (earlier : List Square) (tree : Tree) (list : List Bin) →
+      IsBehind c earlier → IsCoded size c earlier tree list → c + squares size ≡ next →
+      IsBehind next (after size earlier tree)
+  behind_next size c next earlier tree list behind node place =
+      let these : List Square = squares_of size tree in
       let many : length these ≡ squares size =
-      length-squares I 0 (site width height index) size c (widened size tree) node.valid in
+      length-squares I 0 (site width height index) size c tree node.valid in
       let before : length done + length earlier ≡ 64 * index + c =
       sym (length-append done earlier) ∙ behind.number in
       record {
@@ -281,12 +285,16 @@ module _ (width height index : ℕ) (done : List Square) where
       IsNode (suc size) address → ParentsCross width height index (suc size) address →
       IsBehind address earlier → is_outside (site width height index) address ≡ false →
       crosses (site width height index) (suc size) address ≡ true →
-      IsWidened (suc size) address earlier
-      (NarrowSplit
-      (blank_tree size (across address) (down address))
-      (blank_tree size (across address - side size) (down address))
-      (blank_tree size (across address) (down address - side size))
-      (blank_tree size (across address - side size) (down address - side size)))
+      IsCoded (suc size) address earlier
+      (Split
+      (blank_at size address)
+      (blank_at size (address + squares size))
+      (blank_at size (address + 2 * squares size))
+      (blank_at size (address + 3 * squares size)))
+      (put.node_bins size (across address) (down address) ++
+      (put.node_bins size (across address - side size) (down address) ++
+      (put.node_bins size (across address) (down address - side size) ++
+      put.node_bins size (across address - side size) (down address - side size))))
   unfolding IsValidNode bins_of_node
   split_node size address earlier smaller node parents behind inside crossing =
       let n : ℕ = squares size in
@@ -301,22 +309,17 @@ module _ (width height index : ℕ) (done : List Square) where
       let p3 = part_of size address 3 (address + 3 * n) (w - side size) (h - side size) node parents
       crossing (omega arith) (omega arith) (omega arith) (omega arith) in
       let a = part_node size address address w h earlier smaller p0 behind in
-      let behind_a = behind_next size address (address + n) earlier _ behind a refl in
-      let earlier_a : List Square = after size earlier (widened size (blank_tree size w h)) in
-      let b = part_node size address (address + n) (w - side size) h earlier_a smaller p1 behind_a
-      in
-      let behind_b = behind_next size (address + n) (address + 2 * n) earlier_a _ behind_a b
+      let behind_a = behind_next size address (address + n) earlier _ _ behind a refl in
+      let earlier_a : List Square = after size earlier (blank_at size address) in
+      let b = part_node size address (address + n) (w - side size) h earlier_a smaller p1 behind_a in
+      let behind_b = behind_next size (address + n) (address + 2 * n) earlier_a _ _ behind_a b
       (omega arith) in
-      let earlier_b : List Square =
-      after size earlier_a (widened size (blank_tree size (w - side size) h)) in
-      let c = part_node size address (address + 2 * n) w (h - side size) earlier_b smaller p2
-      behind_b in
-      let behind_c = behind_next size (address + 2 * n) (address + 3 * n) earlier_b _ behind_b c
+      let earlier_b : List Square = after size earlier_a (blank_at size (address + n)) in
+      let c = part_node size address (address + 2 * n) w (h - side size) earlier_b smaller p2 behind_b in
+      let behind_c = behind_next size (address + 2 * n) (address + 3 * n) earlier_b _ _ behind_b c
       (omega arith) in
-      let earlier_c : List Square =
-      after size earlier_b (widened size (blank_tree size w (h - side size))) in
-      let d = part_node size address (address + 3 * n) (w - side size) (h - side size) earlier_c
-      smaller
+      let earlier_c : List Square = after size earlier_b (blank_at size (address + 2 * n)) in
+      let d = part_node size address (address + 3 * n) (w - side size) (h - side size) earlier_c smaller
       p3 behind_c in
       record {
         valid = (inside, a.valid, b.valid, c.valid, d.valid);
@@ -324,10 +327,10 @@ module _ (width height index : ℕ) (done : List Square) where
             crossing a.same b.same c.same d.same;
         blank = subst (λ list. AllBlank width height (done ++ list))
             (four_together earlier
-            (squares_of size (widened size (blank_tree size w h)))
-            (squares_of size (widened size (blank_tree size (w - side size) h)))
-            (squares_of size (widened size (blank_tree size w (h - side size))))
-            (squares_of size (widened size (blank_tree size (w - side size) (h - side size)))))
+            (squares_of size (blank_at size address))
+            (squares_of size (blank_at size (address + n)))
+            (squares_of size (blank_at size (address + 2 * n)))
+            (squares_of size (blank_at size (address + 3 * n))))
             d.blank;
       }
 
@@ -336,26 +339,39 @@ module _ (width height index : ℕ) (done : List Square) where
   smallest_by : (outside : Bool) (address : ℕ) (earlier : List Square) → IsNode zero address →
       ParentsCross width height index zero address → IsBehind address earlier →
       is_outside (site width height index) address ≡ outside →
-      IsWidened zero address earlier
-      (cond outside NarrowOutside (NarrowLeaf (NarrowIntra dc_mode)))
-  smallest_by true address earlier node parents behind e =
-      outside_node zero address earlier behind e
+      IsCoded zero address earlier (cond outside Outside (flat zero))
+      (cond outside [] (flat_bins zero))
+  smallest_by true address earlier node parents behind e = outside_node zero address earlier behind e
   smallest_by false address earlier node parents behind e =
       smallest_node address earlier node parents behind e
+
+  abbrev tree_by : Bool → Bool → ℕ → ℕ → Tree
+  tree_by outside crossing size address =
+      cond outside Outside
+      (cond crossing
+      (Split
+      (blank_at size address)
+      (blank_at size (address + squares size))
+      (blank_at size (address + 2 * squares size))
+      (blank_at size (address + 3 * squares size)))
+      (flat (suc size)))
+
+  abbrev bins_by : Bool → Bool → ℕ → ℕ → ℕ → List Bin
+  bins_by outside crossing size w h =
+      cond outside []
+      (cond crossing
+      (put.node_bins size w h ++
+      (put.node_bins size (w - side size) h ++
+      (put.node_bins size w (h - side size) ++
+      put.node_bins size (w - side size) (h - side size))))
+      (flat_bins (suc size)))
 
   node_by : (outside crossing : Bool) (size address : ℕ) (earlier : List Square) → Blanks size →
       IsNode (suc size) address → ParentsCross width height index (suc size) address →
       IsBehind address earlier → is_outside (site width height index) address ≡ outside →
       crosses (site width height index) (suc size) address ≡ crossing →
-      IsWidened (suc size) address earlier
-      (cond outside NarrowOutside
-      (cond crossing
-      (NarrowSplit
-      (blank_tree size (across address) (down address))
-      (blank_tree size (across address - side size) (down address))
-      (blank_tree size (across address) (down address - side size))
-      (blank_tree size (across address - side size) (down address - side size)))
-      (NarrowLeaf (NarrowIntra dc_mode))))
+      IsCoded (suc size) address earlier (tree_by outside crossing size address)
+      (bins_by outside crossing size (across address) (down address))
   node_by true crossing size address earlier smaller node parents behind e f =
       outside_node (suc size) address earlier behind e
   node_by false true size address earlier smaller node parents behind e f =
@@ -364,53 +380,56 @@ module _ (width height index : ℕ) (done : List Square) where
       unit_node size address earlier node parents behind e f
 
   all_nodes : (size : ℕ) → Blanks size
-  unfolding Blanks
+  unfolding Blanks blank_node
   all_nodes zero address earlier node parents behind =
+      let outside : Bool = is_outside (site width height index) address in
       subst
-      (λ o. IsWidened zero address earlier (cond o NarrowOutside
-      (NarrowLeaf (NarrowIntra dc_mode))))
+      (λ o. IsCoded zero address earlier (cond outside Outside (flat zero))
+      (cond o [] (flat_bins zero)))
       (outside_same address)
-      (smallest_by (is_outside (site width height index) address) address earlier node parents
-      behind
-      refl)
+      (smallest_by outside address earlier node parents behind refl)
   all_nodes (suc size) address earlier node parents behind =
       let w : ℕ = across address in
       let h : ℕ = down address in
-      let tree : Bool → Bool → NarrowTree = λ o x.
-      cond o NarrowOutside
-      (cond x
-      (NarrowSplit (blank_tree size w h) (blank_tree size (w - side size) h)
-      (blank_tree size w (h - side size)) (blank_tree size (w - side size) (h - side size)))
-      (NarrowLeaf (NarrowIntra dc_mode))) in
-      subst (λ o. IsWidened (suc size) address earlier (tree o (narrow_crosses (suc size) w h)))
+      let outside : Bool = is_outside (site width height index) address in
+      let crossing : Bool = crosses (site width height index) (suc size) address in
+      subst
+      (λ o. IsCoded (suc size) address earlier (tree_by outside crossing size address)
+      (bins_by o (put.crosses (suc size) w h) size w h))
       (outside_same address)
       (subst
-      (λ x. IsWidened (suc size) address earlier
-      (tree (is_outside (site width height index) address) x))
+      (λ x. IsCoded (suc size) address earlier (tree_by outside crossing size address)
+      (bins_by outside x size w h))
       (crosses_same (suc size) address)
-      (node_by (is_outside (site width height index) address)
-      (crosses (site width height index) (suc size) address) size address earlier
-      (λ a e. all_nodes size a e) node parents behind refl refl))
+      (node_by outside crossing size address earlier (λ a e. all_nodes size a e) node parents behind
+      refl refl))
 
   -- ---- a block
 
   whole_block : AllBlank width height done → length done ≡ 64 * index →
-      IsWidened greatest_size 0 []
-      (blank_tree 3 (narrow_site width height index).width (narrow_site width height index).height)
+      IsCoded greatest_size 0 [] (best (site width height index))
+      (put.node_bins greatest_size (width - 64 * (index % blocks_over width))
+      (height - 64 * (index / blocks_over width)))
   unfolding across down column_of row_of ParentsCross Blanks
   whole_block blank number =
       let none : done ++ [] ≡ done = append-nil done in
-      let column : across 0 ≡ (narrow_site width height index).width = omega arith in
-      let row : down 0 ≡ (narrow_site width height index).height = omega arith in
+      let w : ℕ = width - 64 * (index % blocks_over width) in
+      let h : ℕ = height - 64 * (index / blocks_over width) in
+      let column : across 0 ≡ w = omega arith in
+      let row : down 0 ≡ h = omega arith in
       let node : IsNode 3 0 = record { few = omega arith; inside = omega arith; even = refl } in
       let behind : IsBehind 0 [] = record {
         blank = subst (λ list. AllBlank width height list) (sym none) blank;
         number = rw none (omega (arith, number));
       } in
       subst
-      (λ w. IsWidened greatest_size 0 [] (blank_tree 3 w (narrow_site width height index).height))
+      (λ v. IsCoded greatest_size 0 [] (best (site width height index))
+      (put.node_bins greatest_size v h))
       column
-      (subst (λ h. IsWidened greatest_size 0 [] (blank_tree 3 (across 0) h)) row
+      (subst
+      (λ v. IsCoded greatest_size 0 [] (best (site width height index))
+      (put.node_bins greatest_size (across 0) v))
+      row
       (all_nodes 3 0 [] node (λ greater above most. absurd (omega (arith, above, most))) behind))
 
 -- ---- sample adaptive offsets
@@ -418,84 +437,57 @@ module _ (width height index : ℕ) (done : List Square) where
 sao_by : (left above : Bool) →
     map slice_bin
     (merge_bins left ++ (merge_bins above ++ (sao_type_bins Off ++ sao_type_bins Off))) ≡
-    narrow_merge_bins left ++ narrow_merge_bins above ++
-    context_bin (record { table = SaoType; index = 0 }) false ∷
-    context_bin (record { table = SaoType; index = 0 }) false ∷ []
+    put.sao_bins left above
 unfolding truncated_unary_bins
 sao_by true true = refl
 sao_by true false = refl
 sao_by false true = refl
 sao_by false false = refl
 
-sao_same : (width height index : ℕ) (offsets : NarrowOffsets) →
+sao_same : (width height index : ℕ) →
     map slice_bin (sao_bins (site width height index) no_offsets) ≡
-    narrow_sao_bins (narrow_site width height index) offsets
+    put.sao_bins (has_left (site width height index)) (has_above (site width height index))
 unfolding sao_bins truncated_unary_bins
-sao_same width height index NarrowOff =
+sao_same width height index =
     sao_by (has_left (site width height index)) (has_above (site width height index))
-
-no_offsets_valid : AreOffsets no_offsets
-no_offsets_valid = record {
-  luma = record { kind = tt; offsets = refl };
-  cb = record { kind = tt; offsets = refl };
-  cr = record { kind = tt; offsets = refl };
-  chroma = refl;
-}
 
 -- ---- a slice
 
-same_end : (count width height index : ℕ) →
-    narrow_is_empty (narrow_sites_from count width height index) ≡
-    is_empty (sites_from count width height index)
-same_end zero width height index = refl
-same_end (suc count) width height index = refl
+last_of_count : (count width height index : ℕ) →
+    is_empty (sites_from count width height index) ≡ nat_eq count 0
+last_of_count zero width height index = refl
+last_of_count (suc count) width height index = sym (ne_eqb (suc count) 0 (λ e. omega (arith, e)))
 
-record SlicesAgree (width height count index : ℕ) (done : List Square) (units : List NarrowUnit) :
-    Type 0 where
-  valid : AreValid I 0 (sites_from count width height index) (map widened_unit units)
-  same : slice_bins_from I 0 done (sites_from count width height index) (map widened_unit units) ≡
-      narrow_bins (narrow_sites_from count width height index) units
-
-blocks_agree : (width height count index : ℕ) (done : List Square) (units : List NarrowUnit) →
+blocks_defined : (width height count index : ℕ) (done : List Square) →
     AllBlank width height done → length done ≡ 64 * index →
-    AreNarrow (narrow_sites_from count width height index) units →
-    SlicesAgree width height count index done units
-blocks_agree width height zero index done [] blank number valid = record { valid = tt; same = refl }
-blocks_agree width height zero index done (unit ∷ units) blank number valid = absurd valid
-blocks_agree width height (suc count) index done [] blank number valid = absurd valid
-blocks_agree width height (suc count) index done (unit ∷ units) blank number valid =
-    let tree : NarrowTree = unit.tree in
-    let these : List Square = squares_of greatest_size (widened greatest_size tree) in
-    let block : IsWidened width height index done greatest_size 0 [] tree =
-    subst (λ t. IsWidened width height index done greatest_size 0 [] t) (sym valid.0)
-    (whole_block width height index done blank number) in
+    slice_bins_from I 0 done (sites_from count width height index)
+    (coded_units (sites_from count width height index)) ≡
+    put.blocks_bins width height count index
+blocks_defined width height zero index done blank number = refl
+blocks_defined width height (suc count) index done blank number =
+    let tree : Tree = best (site width height index) in
+    let these : List Square = squares_of greatest_size tree in
+    let block = whole_block width height index done blank number in
     let many : length these ≡ 64 =
-    length-squares I 0 (site width height index) greatest_size 0 (widened greatest_size tree)
-    block.valid in
-    let later : SlicesAgree width height count (index + 1) (after greatest_size done
-    (widened greatest_size tree)) units =
-    blocks_agree width height count (index + 1) (done ++ these) units block.blank
-    (rw (length-append done these) (omega (arith, many, number))) valid.2 in
-    let sao : List Bin = narrow_sao_bins (narrow_site width height index) unit.sao in
-    record {
-      valid = (
-        no_offsets_valid,
-        block.valid,
-        valid.1 ∙ same_end count width height (index + 1),
-        later.valid,
-      );
-      same = ap₂ (λ first others. first ++ others)
-          (ap₂ (λ offsets node. offsets ++ (node ++ terminate_bin unit.end_of_slice_segment_flag ∷
-          []))
-          (sao_same width height index unit.sao) block.same ∙
-          sym (append_assoc sao (tree_bins 3 tree) (terminate_bin unit.end_of_slice_segment_flag ∷
-          [])))
-          later.same;
-    }
+    length-squares I 0 (site width height index) greatest_size 0 tree block.valid in
+    let later = blocks_defined width height count (index + 1) (done ++ these) block.blank
+    (rw (length-append done these) (omega (arith, many, number))) in
+    let offsets : List Bin =
+    put.sao_bins (has_left (site width height index)) (has_above (site width height index)) in
+    let node : List Bin =
+    put.node_bins greatest_size (width - 64 * (index % blocks_over width))
+    (height - 64 * (index / blocks_over width)) in
+    let ends = last_of_count count width height (index + 1) in
+    ap₂ (λ first others. first ++ others)
+    (rw ends (ap₂ (λ a b. a ++ (b ++ terminate_bin (nat_eq count 0) ∷ []))
+    (sao_same width height index) block.same ∙
+    sym (append_assoc offsets node (terminate_bin (nat_eq count 0) ∷ []))))
+    later
 
-pub slices_agree : BlankSlicesAgree
-unfolding sites narrow_sites
-slices_agree width height units valid =
-    let all = blocks_agree width height (blocks_over width * blocks_over height) 0 [] units
-    (none_blank width height) refl valid in
-    (all.valid, all.same)
+pub picture_bins_defined : (width height : ℕ) →
+    slice_bins I 0 (sites width height) (coded_units (sites width height)) ≡
+    put.picture_bins width height
+unfolding sites
+picture_bins_defined width height =
+    blocks_defined width height (blocks_over width * blocks_over height) 0 []
+    (none_blank width height) refl

@@ -1,4 +1,0 @@
-pub mod Trees
-pub mod Bins
-pub mod BlockSyntax
-pub mod BlockLaws

@@ -54,3 +54,10 @@ pub row_copied : (samples : List ℕ) (stride n y i : ℕ) → i < n →
 row_copied samples stride n y i below =
     get_or-take (y * stride + n - y * stride) (drop (y * stride) samples) i 0 (omega (arith, below)) ∙
     get_or-drop (y * stride) samples i 0 ∙ ap (λ k. slice_index_or samples k 0) (sym (place_is n stride y i below))
+
+-- some columns ahead of column x of row y
+pub place_ahead : (n stride y x i : ℕ) → x + i < n → y * stride + x + i ≡ place_of n stride (y * n + x + i)
+place_ahead n stride y x i below =
+    let same : y * n + x + i ≡ y * n + (x + i) = omega arith in
+    let here : y * stride + x + i ≡ y * stride + (x + i) = omega arith in
+    here ∙ sym (ap (place_of n stride) same ∙ place_is n stride y (x + i) below)

@@ -98,3 +98,15 @@ pub sum_fits : (taps : List ℤ) (samples : List ℕ) (at step : ℕ) (z : ℤ) 
 sum_fits taps samples at step z light bytes e =
     rw (e) (fits_signed_from_abs w16 (strided_sum taps samples at step)
     (omega (arith, size_of_strided_sum taps samples at step light bytes)))
+
+weight_of_take : (k : ℕ) (taps : List ℤ) → weight_of (take k taps) ≤ weight_of taps
+weight_of_take zero taps = omega arith
+weight_of_take (suc k) [] = omega arith
+weight_of_take (suc k) (tap ∷ taps) = omega (arith, weight_of_take k taps)
+
+-- the sum of the first of them
+pub size_of_strided_sum_of : (k : ℕ) (taps : List ℤ) (samples : List ℕ) (at step : ℕ) → weight_of taps ≤ 112 →
+    ((i : ℕ) → Fits w8 (slice_index_or samples i 0)) → unsigned_abs (strided_sum_of k taps samples at step) ≤ 28560
+unfolding strided_sum_of
+size_of_strided_sum_of k taps samples at step light bytes =
+    size_of_strided_sum (take k taps) samples at step (omega (arith, light, weight_of_take k taps)) bytes

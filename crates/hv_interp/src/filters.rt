@@ -5,6 +5,8 @@ ghost use Rattle.std.specs.Int.RustNames.{unsigned_abs};
 ghost use Rattle.hv_inter_model.specs.Interpolation.{weighted_sample};
 ghost use Rattle.hv_interp.specs.Filters.{HasFirst, HoldsTaps, filtered, place_of, strided_sum, strided_total, weight_of};
 
+use crate::lanes::{eight_sums, put_samples, put_sums};
+
 /// The product of a tap and a number.
 #[inline(always)]
 fn product(tap: i8, number: i16) -> i32
@@ -83,6 +85,7 @@ pub(crate) fn filter<const T: usize>(
 )
     requires some { 0 < T }
     requires most { T ≤ 8 }
+    requires light { weight_of taps.now ≤ 112 }
     requires stride { stride < 2 ^ 32 }
     requires step { step < 2 ^ 32 }
     requires size { size ≤ 64 }
@@ -90,9 +93,15 @@ pub(crate) fn filter<const T: usize>(
     requires room { length out.old ≡ size * size }
     ensures { HasFirst 0 (size * size) (filtered taps.now samples.now stride step size) out.new }
 {
+    let weights = *taps;
     for y in 0..size {
-        for x in 0..size {
-            out[y * size + x] = rounded(sum_of_samples(taps, samples, y * stride + x, step));
+        for g in 0..size / 8 {
+            let sums = eight_sums(&weights, samples, y * stride + 8 * g, step);
+            put_samples(sums, &mut out[y * size + 8 * g..y * size + 8 * g + 8]);
+        }
+        for r in 0..size % 8 {
+            let x = size / 8 * 8 + r;
+            out[y * size + x] = rounded(sum_of_samples(&weights, samples, y * stride + x, step));
         }
     }
 }
@@ -117,9 +126,15 @@ pub(crate) fn sum_rows<const T: usize>(
     ensures { HasFirst (pos 0) (rows * size)
         (λ k. strided_sum taps.now samples.now (place_of size stride k) 1) sums.new }
 {
+    let weights = *taps;
     for y in 0..rows {
-        for x in 0..size {
-            sums[y * size + x] = sum_of_samples(taps, samples, y * stride + x, 1) as i16;
+        for g in 0..size / 8 {
+            let eight = eight_sums(&weights, samples, y * stride + 8 * g, 1);
+            put_sums(eight, &mut sums[y * size + 8 * g..y * size + 8 * g + 8]);
+        }
+        for r in 0..size % 8 {
+            let x = size / 8 * 8 + r;
+            sums[y * size + x] = sum_of_samples(&weights, samples, y * stride + x, 1) as i16;
         }
     }
 }

@@ -46,6 +46,7 @@ pub(crate) fn interpolate<const T: usize>(
     requires before { 2 * before + 2 ≡ T }
     requires most { T ≤ 8 }
     requires across_light { weight_of across.now ≤ 112 }
+    requires down_light { weight_of down.now ≤ 112 }
     requires stride { stride < 2 ^ 32 }
     requires size { size ≤ 64 }
     requires inside { HoldsBlock samples.now stride (size + T - 1) (size + T - 1) }

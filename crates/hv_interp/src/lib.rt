@@ -3,6 +3,7 @@
 
 mod filters;
 mod interpolate;
+mod lanes;
 mod predict;
 mod taps;
 #[cfg(test)]

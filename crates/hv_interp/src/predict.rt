@@ -62,7 +62,8 @@ fn predict_by_copy<const T: usize>(
 )
     requires before { 2 * before + 2 ≡ T }
     requires most { T ≤ 8 }
-    requires light { weight_of across.now ≤ 112 }
+    requires across_light { weight_of across.now ≤ 112 }
+    requires down_light { weight_of down.now ≤ 112 }
     requires x { unsigned_abs x ≤ 8589934592 }
     requires y { unsigned_abs y ≤ 8589934592 }
     requires size { size ≤ 64 }
@@ -96,7 +97,8 @@ fn predict_from<const T: usize>(
 )
     requires before { 2 * before + 2 ≡ T }
     requires most { T ≤ 8 }
-    requires light { weight_of across.now ≤ 112 }
+    requires across_light { weight_of across.now ≤ 112 }
+    requires down_light { weight_of down.now ≤ 112 }
     requires x { unsigned_abs x ≤ 8589934592 }
     requires y { unsigned_abs y ≤ 8589934592 }
     requires size { size ≤ 64 }

@@ -1,9 +1,12 @@
-use Rattle.std.proofs.Common.{◌+◌, ◌*◌}
+use Rattle.std.proofs.Common.{◌/◌, ◌+◌, ◌*◌}
 use Rattle.hv_interp.specs.Filters.{HasFirst, filtered}
 use Rattle.hv_interp.proofs.filters.filter.Given as goal
 
 abbrev pub invariant-loop-y : goal.invariant-loop-y
 invariant-loop-y g l = HasFirst 0 (l.y * l.size) (filtered l.taps l.samples l.stride l.step l.size) l.out
 
-abbrev pub invariant-loop-x : goal.invariant-loop-x
-invariant-loop-x g l = HasFirst 0 (l.y * l.size + l.x) (filtered l.taps l.samples l.stride l.step l.size) l.out
+abbrev pub invariant-loop-g : goal.invariant-loop-g
+invariant-loop-g g l = HasFirst 0 (l.y * l.size + 8 * l.g) (filtered l.taps l.samples l.stride l.step l.size) l.out
+
+abbrev pub invariant-loop-r : goal.invariant-loop-r
+invariant-loop-r g l = HasFirst 0 (l.y * l.size + (l.size / 8 * 8 + l.r)) (filtered l.taps l.samples l.stride l.step l.size) l.out

@@ -12,14 +12,17 @@ filter-requires g c = (
     (
       c.requires.most,
       (
-        c.requires.stride,
+        c.requires.down_light,
         (
           c.requires.stride,
           (
-            c.requires.size,
+            c.requires.stride,
             (
-              columns_inside c.args.before g.row.T c.args.stride c.args.size c.args.samples.now c.requires.before c.requires.inside,
-              c.requires.room,
+              c.requires.size,
+              (
+                columns_inside c.args.before g.row.T c.args.stride c.args.size c.args.samples.now c.requires.before c.requires.inside,
+                c.requires.room,
+              ),
             ),
           ),
         ),

@@ -754,6 +754,183 @@ fn forward(residual: &[i16], log2: u8, out: &mut [i32]) {
     }
 }
 
+// ---- inter prediction
+
+const LUMA_TAPS: [[i16; 8]; 4] = [
+    [0, 0, 0, 64, 0, 0, 0, 0],
+    [-1, 4, -10, 58, 17, -5, 1, 0],
+    [-1, 4, -11, 40, 40, -11, 4, -1],
+    [0, 1, -5, 17, 58, -10, 4, -1],
+];
+
+const CHROMA_TAPS: [[i16; 4]; 8] = [
+    [0, 64, 0, 0],
+    [-2, 58, 10, -2],
+    [-4, 54, 16, -2],
+    [-6, 46, 28, -4],
+    [-4, 36, 36, -4],
+    [-4, 28, 46, -6],
+    [-2, 16, 54, -4],
+    [-2, 10, 58, -2],
+];
+
+fn rounded_16(sum: i16) -> u8 {
+    (sum.wrapping_add(32) >> 6).clamp(0, 255) as u8
+}
+
+#[inline(always)]
+fn sum_16<const N: usize, const T: usize>(taps: &[i16; T], rows: &[&[u8; N]; T], x: usize) -> i16 {
+    let mut sum = 0i16;
+    for k in 0..T {
+        sum = sum.wrapping_add(taps[k].wrapping_mul(i16::from(rows[k][x])));
+    }
+    sum
+}
+
+#[inline(never)]
+fn inter_copy<const N: usize>(reference: &[u8], stride: usize, out: &mut [u8]) {
+    for y in 0..N {
+        out[N * y..N * y + N].copy_from_slice(row::<N>(reference, y * stride));
+    }
+}
+
+// Taps a `step` apart: 1 along rows, the stride down columns.
+#[inline(never)]
+fn inter_filter<const N: usize, const T: usize>(
+    taps: &[i16; T],
+    reference: &[u8],
+    stride: usize,
+    step: usize,
+    out: &mut [u8],
+) {
+    for y in 0..N {
+        let rows: [&[u8; N]; T] =
+            std::array::from_fn(|k| row::<N>(reference, y * stride + k * step));
+        let target: &mut [u8; N] = (&mut out[N * y..N * y + N]).try_into().unwrap();
+        for x in 0..N {
+            target[x] = rounded_16(sum_16(taps, &rows, x));
+        }
+    }
+}
+
+#[inline(never)]
+fn inter_both<const N: usize, const T: usize>(
+    across: &[i16; T],
+    down: &[i16; T],
+    reference: &[u8],
+    stride: usize,
+    out: &mut [u8],
+) {
+    let mut sums = [[0i16; N]; 71];
+    for y in 0..N + T - 1 {
+        let rows: [&[u8; N]; T] = std::array::from_fn(|k| row::<N>(reference, y * stride + k));
+        for x in 0..N {
+            sums[y][x] = sum_16(across, &rows, x);
+        }
+    }
+    for y in 0..N {
+        let rows: [&[i16; N]; T] = std::array::from_fn(|k| &sums[y + k]);
+        let target: &mut [u8; N] = (&mut out[N * y..N * y + N]).try_into().unwrap();
+        for x in 0..N {
+            let mut sum = 0i32;
+            for k in 0..T {
+                sum += i32::from(down[k]) * i32::from(rows[k][x]);
+            }
+            target[x] = (((sum >> 6) + 32) >> 6).clamp(0, 255) as u8;
+        }
+    }
+}
+
+// Blocks whose windows lie inside the reference.
+#[inline(always)]
+fn inter_block<const N: usize, const T: usize>(
+    taps: (&[i16; T], &[i16; T]),
+    fractions: (usize, usize),
+    reference: &[u8],
+    stride: usize,
+    out: &mut [u8],
+) {
+    let before = T / 2 - 1;
+    match fractions {
+        (0, 0) => inter_copy::<N>(&reference[before * stride + before..], stride, out),
+        (_, 0) => inter_filter::<N, T>(taps.0, &reference[before * stride..], stride, 1, out),
+        (0, _) => inter_filter::<N, T>(taps.1, &reference[before..], stride, stride, out),
+        _ => inter_both::<N, T>(taps.0, taps.1, reference, stride, out),
+    }
+}
+
+fn inter(
+    reference: &[u8],
+    stride: usize,
+    luma: bool,
+    place: (usize, usize),
+    size: usize,
+    mv: (i16, i16),
+    out: &mut [u8],
+) {
+    let bits = if luma { 2 } else { 3 };
+    let before = if luma { 3 } else { 1 };
+    let x = (place.0 as isize + isize::from(mv.0 >> bits)) as usize - before;
+    let y = (place.1 as isize + isize::from(mv.1 >> bits)) as usize - before;
+    let window = &reference[y * stride + x..];
+    let fractions = (
+        (mv.0 & ((1 << bits) - 1)) as usize,
+        (mv.1 & ((1 << bits) - 1)) as usize,
+    );
+    if luma {
+        let taps = (&LUMA_TAPS[fractions.0], &LUMA_TAPS[fractions.1]);
+        match size {
+            16 => inter_block::<16, 8>(taps, fractions, window, stride, out),
+            _ => inter_block::<64, 8>(taps, fractions, window, stride, out),
+        }
+    } else {
+        let taps = (&CHROMA_TAPS[fractions.0], &CHROMA_TAPS[fractions.1]);
+        match size {
+            8 => inter_block::<8, 4>(taps, fractions, window, stride, out),
+            _ => inter_block::<32, 4>(taps, fractions, window, stride, out),
+        }
+    }
+}
+
+// A block: its name, whether it is of luma, its size and its vector.
+const INTER_KERNELS: [(&str, bool, usize, (i16, i16)); 7] = [
+    ("inter_copy_64", true, 64, (16, 16)),
+    ("inter_rows_64", true, 64, (17, 16)),
+    ("inter_columns_64", true, 64, (16, 18)),
+    ("inter_both_64", true, 64, (17, 18)),
+    ("inter_both_16", true, 16, (17, 18)),
+    ("inter_chroma_8", false, 8, (17, 18)),
+    ("inter_chroma_32", false, 32, (17, 18)),
+];
+
+fn checksum_of_inter(luma: bool, size: usize, mv: (i16, i16), rounds: usize) -> u64 {
+    let mut state = 5;
+    let mut reference = vec![0u8; SAMPLES];
+    for sample in &mut reference {
+        state = next(state);
+        *sample = (state >> 24) as u8;
+    }
+    let (mv, size, stride) = (black_box(mv), black_box(size), black_box(WIDTH));
+    let mut sum = 0u64;
+    for _ in 0..rounds {
+        for place in 0..CALLS {
+            let mut block = [0; 4096];
+            let at = (64 + place, 16 + place % 32);
+            inter(
+                &reference,
+                stride,
+                luma,
+                at,
+                size,
+                mv,
+                &mut block[..size * size],
+            );
+            sum = sum.wrapping_add(u64::from(black_box(&block)[place]));
+        }
+    }
+    sum
+}
+
 // A transform: its name, whether it is an inverse, the side, and how many columns and rows have levels.
 const TRANSFORM_KERNELS: [(&str, bool, u8, usize); 10] = [
     ("inverse_8", true, 3, 8),
@@ -841,6 +1018,11 @@ fn main() -> ExitCode {
     for (known, kernel, count) in INTRA_KERNELS {
         if name == "all" || name == known {
             println!("{known} {}", checksum_of_intra(kernel, count, rounds));
+        }
+    }
+    for (known, luma, size, mv) in INTER_KERNELS {
+        if name == "all" || name == known {
+            println!("{known} {}", checksum_of_inter(luma, size, mv, rounds));
         }
     }
     for (known, is_inverse, log2, kept) in TRANSFORM_KERNELS {

@@ -1,25 +1,16 @@
 -- The filters over a window, as the sums over its columns and rows.
-use Rattle.std.proofs.Common.{◌≡◌, ℕ, zero, suc, ◌+◌, ◌-◌, ◌*◌, ◌/◌, ◌%◌, ◌<◌, ◌≤◌, Bool, List, ℤ, pos, ◌*ℤ◌, refl, sym, ◌∙◌, ap, arith, length, drop, slice_index_or, nat_eq, false, take, take_all, length-drop}
-use Rattle.std.proofs.lemmas.Bool.{eqb-true, ne_eqb}
+use Rattle.std.proofs.Common.{◌≡◌, ℕ, zero, suc, ◌+◌, ◌-◌, ◌*◌, ◌/◌, ◌%◌, ◌<◌, ◌≤◌, List, ℤ, pos, sym, ◌∙◌, ap, arith, length, drop, slice_index_or, nat_eq, false, take, take_all, length-drop}
+use Rattle.std.proofs.lemmas.Bool.{ne_eqb}
 use Rattle.std.proofs.Math.Nat.{add-mul, mul-le-mul_right}
 use Rattle.std.proofs.lemmas.Nat.{mod_below, div-add-mod'}
 use Rattle.std.proofs.lemmas.List.{get_or-drop}
 use Rattle.std.specs.Int.{int_shr}
-use Rattle.hv_lemmas.proofs.ComputedLemmas.{holds_below}
 use Rattle.hv_inter_model.specs.Interpolation.{weighted, weighted_sample}
 use Rattle.hv_types.specs.Windows.{HoldsBlock}
 use Rattle.hv_interp.specs.Windows.{sample_of}
 use Rattle.hv_interp.specs.Filters.{HasFirst, place_of, filtered, filtered_twice, HoldsTaps, strided_sum, strided_total, predicted}
 use Rattle.hv_interp.proofs.SumLemmas.{weighted_same}
 use Rattle.hv_interp.proofs.PlaceLemmas.{place_is}
-
--- a whole sample is rounded to itself
-is_kept : ℕ → Bool
-is_kept v = nat_eq (weighted_sample (pos v *ℤ pos 64)) v
-
-pub whole_sample : (v : ℕ) → v < 256 → weighted_sample (pos v *ℤ pos 64) ≡ v
-unfolding is_kept
-whole_sample v below = eqb-true _ _ (holds_below 256 is_kept refl v below)
 
 -- a sample behind the first m ones
 behind : (w : List ℕ) (m at i j stride : ℕ) → m + at ≡ j * stride + i →
@@ -32,16 +23,6 @@ other_than_0 n some = ne_eqb n 0 (λ e. omega (arith, e, some))
 -- the samples behind the first ones
 pub rest_is : (m : ℕ) (w : List ℕ) → take (length w - m) (drop m w) ≡ drop m w
 rest_is m w = take_all (length w - m) (drop m w) (omega (arith, length-drop m w))
-
-pub copied_is : (before n k stride : ℕ) (across down : List ℤ) (w : List ℕ) →
-    ((i : ℕ) → slice_index_or w i 0 < 256) →
-    slice_index_or (drop (before * stride + before) w) (place_of n stride k) 0 ≡
-    predicted before 0 0 across down (sample_of w stride) n k
-copied_is before n k stride across down w bytes =
-    let at : ℕ = (k / n + before) * stride + (k % n + before) in
-    let place : (before * stride + before) + place_of n stride k ≡ at = omega (arith, add-mul (k / n) before stride) in
-    get_or-drop (before * stride + before) w (place_of n stride k) 0 ∙ ap (λ i. slice_index_or w i 0) place ∙
-    sym (whole_sample (slice_index_or w at 0) (bytes at))
 
 pub rows_are_filtered : (before xFrac n k stride : ℕ) (across down : List ℤ) (w : List ℕ) → 0 < xFrac →
     filtered across (drop (before * stride) w) stride 1 n k ≡

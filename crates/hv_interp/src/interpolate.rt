@@ -6,7 +6,8 @@ ghost use Rattle.hv_interp.specs.Filters.{HasFirst, filtered_twice, predicted, w
 
 use crate::filters::{copy_block, filter, filter_sums, sum_rows};
 
-/// Filters a block of `size` columns and rows along rows and then down columns.
+/// Filters a block of `size` columns and rows along rows and then down columns. Of the sums between
+/// there are 71 rows of 64 at most.
 pub(crate) fn filter_twice<const T: usize>(
     across: &[i8; T],
     down: &[i8; T],

@@ -9,9 +9,6 @@ use hv_types::Plane;
 /// How many samples a window has in a row.
 pub(crate) const STRIDE: usize = 72;
 
-/// How many samples a window has.
-pub(crate) const WINDOW: usize = 5112;
-
 /// The coordinate inside a side that is nearest to the one `ahead` of another.
 #[inline(always)]
 fn nearest(coordinate: i64, ahead: usize, side: u32) -> u32
@@ -25,7 +22,8 @@ fn nearest(coordinate: i64, ahead: usize, side: u32) -> u32
     (coordinate + ahead as i64).clamp(0, i64::from(side - 1)) as u32
 }
 
-/// Copies so many columns and rows of a reference, from column `x` of row `y` on.
+/// Copies so many columns and rows of a reference, 71 at most, from column `x` of row `y` on. The
+/// window has room for 71 rows of 72 samples.
 pub(crate) fn copy_window(
     reference: &Plane,
     x: i64,

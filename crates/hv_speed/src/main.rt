@@ -4,6 +4,7 @@
 #![tactic(auto)]
 
 mod bits;
+mod inter;
 mod intra;
 mod kernel;
 mod pictures;
@@ -13,6 +14,7 @@ mod transforms;
 use anyhow::bail;
 use bits::BitKernel;
 use hv_types::NoMemory;
+use inter::{InterKernel, Motion};
 use intra::{IntraKernel, Lines};
 use kernel::Kernel;
 use pictures::Pictures;
@@ -112,6 +114,35 @@ fn print_checksums_of_intra(
 }
 
 /// The sum of what `rounds` rounds of calls gave, modulo 2^64.
+fn checksum_of_inter(kernel: InterKernel, rounds: u32, motion: &Motion) -> u64 {
+    let mut sum = 0u64;
+    for _ in 0..rounds {
+        for place in 0..CALLS {
+            sum = sum.wrapping_add(kernel.run(motion, place));
+        }
+    }
+    sum
+}
+
+/// As `print_checksums`, for kernels of inter prediction.
+fn print_checksums_of_inter(
+    rt: &impl Print,
+    alloc: Global,
+    kernels: &[InterKernel],
+    rounds: u32,
+) -> anyhow::Result<()> {
+    let Ok(motion) = Motion::new(alloc) else {
+        bail!("not enough memory");
+    };
+    for kernel in kernels {
+        let sum = checksum_of_inter(*kernel, rounds, &motion);
+        let name = kernel.name();
+        println!(rt; "{name} {sum}")?;
+    }
+    Ok(())
+}
+
+/// The sum of what `rounds` rounds of calls gave, modulo 2^64.
 fn checksum_of_transforms(kernel: TransformKernel, rounds: u32, block: &mut Block) -> u64 {
     let mut sum = 0u64;
     for _ in 0..rounds {
@@ -150,6 +181,7 @@ fn main(rt: HostRuntime) -> anyhow::Result<()> {
         print_checksums(&rt, rt.alloc(), &Kernel::ALL, rounds)?;
         print_checksums_of_bits(&rt, rt.alloc(), &BitKernel::ALL, rounds)?;
         print_checksums_of_intra(&rt, &IntraKernel::ALL, rounds)?;
+        print_checksums_of_inter(&rt, rt.alloc(), &InterKernel::ALL, rounds)?;
         return print_checksums_of_transforms(&rt, rt.alloc(), &TransformKernel::ALL, rounds);
     }
     if let Some(kernel) = BitKernel::named(name.as_str()) {
@@ -157,6 +189,9 @@ fn main(rt: HostRuntime) -> anyhow::Result<()> {
     }
     if let Some(kernel) = IntraKernel::named(name.as_str()) {
         return print_checksums_of_intra(&rt, &[kernel], rounds);
+    }
+    if let Some(kernel) = InterKernel::named(name.as_str()) {
+        return print_checksums_of_inter(&rt, rt.alloc(), &[kernel], rounds);
     }
     if let Some(kernel) = TransformKernel::named(name.as_str()) {
         return print_checksums_of_transforms(&rt, rt.alloc(), &[kernel], rounds);

@@ -1,0 +1,3 @@
+mod WorkedBlocks
+mod WorkedOffsets
+mod WorkedChoices

@@ -1,0 +1,5 @@
+pub mod Blocks
+pub mod Costs
+pub mod OffsetBins
+pub mod OffsetDecision
+pub mod SampleAdaptiveOffset

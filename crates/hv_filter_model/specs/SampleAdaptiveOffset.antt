@@ -131,6 +131,9 @@ sao_sample component plane x y =
 abbrev pub off : SaoComponent
 off = record { kind = Off; offsets = replicate 4 (pos 0) }
 
+abbrev pub off_param : SaoParam
+off_param = record { luma = off; cb = off; cr = off }
+
 -- a plane whose blocks have this side, `across` of them in a row, and these choices
 abbrev pub sao_plane : ℕ → ℕ → List SaoComponent → Plane → Plane
 sao_plane side across choices plane =

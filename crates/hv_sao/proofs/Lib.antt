@@ -1,0 +1,5 @@
+mod EdgeLemmas
+mod PictureLemmas
+mod PlaneLemmas
+mod RowLemmas
+mod SampleLemmas

@@ -1,0 +1,93 @@
+-- Planes of which rows are written, a block after another.
+use Rattle.std.proofs.Common.{◌≡◌, ℕ, ◌+◌, ◌-◌, ◌*◌, ◌/◌, ◌%◌, ◌<◌, ◌≤◌, List, length, get_or, min, slice_set, ⊎_elim, refl, sym, ◌∙◌, ap, subst, arith, length-set}
+use Rattle.std.proofs.lemmas.List.{get_or_default}
+use Rattle.hv_plan.specs.declared.offsets.SaoComponent.{SaoComponent}
+use Rattle.hv_plan.specs.declared.offsets.SaoParam.{SaoParam}
+use Rattle.hv_filter_model.specs.SampleAdaptiveOffset.{sao_sample, off_param}
+use Rattle.hv_sao.specs.declared.component.Component.{Component}
+use Rattle.hv_sao.specs.Components.{component_of}
+use Rattle.std.proofs.lemmas.Bool.{cases_lt}
+use Rattle.std.proofs.lemmas.Nat.{div-mul-add, mul-add-lt}
+use Rattle.std.proofs.lemmas.Grind.{div_ceil_times}
+use Rattle.std.proofs.Math.Nat.{mul-le-mul_right, add-mul}
+use Rattle.hv_types.specs.Samples.{Plane, IsWhole, with_sample}
+use Rattle.hv_sao.specs.Rows.{IsRow, HasPart}
+use Rattle.hv_sao.specs.Planes.{IsWritten, number_at, block_sample}
+use Rattle.hv_sao.proofs.RowLemmas.{no_part, part_more, part_joined}
+
+pub nothing_written : (x y : ℕ) (f : ℕ → ℕ) (p : Plane) → IsWritten x y 0 f p p
+nothing_written x y f p = record { wide = refl; high = refl; size = refl; part = no_part (y * p.width + x) f p.samples }
+
+-- one sample more
+pub sample_written : (x y n k column v : ℕ) (f : ℕ → ℕ) (old new : Plane) → IsWhole old → y < old.height → column < old.width →
+    IsWritten x y n f old new → column ≡ x + n → k ≡ n + 1 → v ≡ f n → IsWritten x y k f old (with_sample new column y v)
+sample_written x y n k column v f old new whole down across h at is right =
+    let inside : y * old.width + column < old.width * old.height = mul-add-lt y old.width column old.height down across in
+    let place : y * new.width + column ≡ y * old.width + x + n = ap (λ w. y * w + column) h.wide ∙ omega arith in
+    let more : HasPart (y * old.width + x) k f old.samples (slice_set new.samples (y * old.width + x + n) v) =
+    part_more (y * old.width + x) n k v f old.samples new.samples h.part is (omega (arith, h.size, whole.count)) right in
+    record {
+      wide = h.wide;
+      high = h.high;
+      size = length-set new.samples (y * new.width + column) v ∙ h.size;
+      part = rw place more;
+    }
+
+-- one part behind another
+pub part_written : (y n m k : ℕ) (f g : ℕ → ℕ) (old mid new : Plane) → IsWritten 0 y n f old mid → IsWritten n y m g mid new →
+    ((i : ℕ) → i < m → g i ≡ f (n + i)) → k ≡ n + m → IsWritten 0 y k f old new
+part_written y n m k f g old mid new h h₂ same is = record {
+  wide = h₂.wide ∙ h.wide;
+  high = h₂.high ∙ h.high;
+  size = h₂.size ∙ h.size;
+  part = part_joined (y * old.width + 0) n m k (y * mid.width + n) f g old.samples mid.samples new.samples h.part h₂.part
+      (ap (λ w. y * w + n) h.wide ∙ omega arith) same is;
+}
+
+-- ---- blocks of a row
+
+-- a block begins inside
+pub block_inside : (w s k : ℕ) → 0 < s → k < w / s + min 1 (w % s) → k * s < w
+block_inside w s k some h =
+    let all : (w / s + min 1 (w % s)) * s < w + s = (div_ceil_times w s some).1 in
+    let most : (k + 1) * s ≤ (w / s + min 1 (w % s)) * s = mul-le-mul_right s (omega arith) in
+    omega (arith, all, most, add-mul k 1 s)
+
+-- all blocks reach to the end
+pub blocks_reach : (w s : ℕ) → 0 < s → w ≤ (w / s + min 1 (w % s)) * s
+blocks_reach w s some = (div_ceil_times w s some).0
+
+pub choice_inside : (w s k first n : ℕ) → k * s < w → w + first * s ≤ n * s → first + k < n
+choice_inside w s k first n inside room =
+    ⊎_elim (λ less. less)
+    (λ more.
+    let most : n * s ≤ (first + k) * s = mul-le-mul_right s more in
+    absurd (omega (arith, inside, room, most, add-mul first k s)))
+    (cases_lt (first + k) n)
+
+pub block_of_column : (s k i : ℕ) → i < s → (k * s + i) / s ≡ k
+block_of_column s k i below = div-mul-add k s i below
+
+-- a block's part of a row behind those before it
+pub block_written : (component : Component) (choices : List SaoParam) (first side width y column step : ℕ) (none : SaoParam)
+    (choice : SaoComponent) (plane old mid new : Plane) (row : List ℕ) → 0 < side → column * side < width →
+    step ≡ min side (width - column * side) → first + column < length choices →
+    choice ≡ component_of component (get_or choices (first + column) none) → length row ≡ step →
+    IsRow (λ i. sao_sample choice plane (column * side + i) y) row →
+    IsWritten 0 y (min (column * side) width) (block_sample component choices first side plane y) old mid →
+    IsWritten (column * side) y (column * side + step - column * side) (number_at row) mid new →
+    IsWritten 0 y (min ((column + 1) * side) width) (block_sample component choices first side plane y) old new
+block_written component choices first side width y column step none choice plane old mid new row some inside is there chosen count values h h₂ =
+    let n : ℕ = column * side in
+    let begin : min n width ≡ n = omega arith in
+    let more : (column + 1) * side ≡ column * side + 1 * side = add-mul column 1 side in
+    let same : choice ≡ component_of component (get_or choices (first + column) off_param) =
+    chosen ∙ ap (λ p. component_of component p) (get_or_default choices (first + column) none off_param there) in
+    part_written y n (n + step - n) (min ((column + 1) * side) width) (block_sample component choices first side plane y) (number_at row)
+    old mid new (subst (λ k. IsWritten 0 y k (block_sample component choices first side plane y) old mid) begin h) h₂
+    (λ i below.
+    values i (omega (arith, below))
+    ∙ ap (λ c. sao_sample c plane (n + i) y) same
+    ∙ ap (λ k. sao_sample (component_of component (get_or choices (first + k) off_param)) plane (n + i) y)
+    (sym (block_of_column side column i (omega (arith, below)))))
+    (omega (arith, more))

@@ -1,0 +1,65 @@
+-- Parts of rows of planes.
+use Rattle.std.proofs.Common.{◌≡◌, ℕ, ◌+◌, ◌-◌, ◌*◌, ◌<◌, ◌≤◌, List, length, get_or, slice_range, slice_set, ⊎_elim, refl, sym, ◌∙◌, ap, ap₂, arith}
+use Rattle.std.proofs.lemmas.List.{get_or-set_same, get_or-set_other}
+use Rattle.std.proofs.lemmas.Bool.{cases_lt}
+use Rattle.std.proofs.lemmas.List.Edits.{length-between, get_or-between}
+use Rattle.std.proofs.lemmas.Nat.{row_fits_turned}
+use Rattle.hv_types.specs.Samples.{Plane, sample_at}
+use Rattle.hv_sao.specs.Rows.{IsRow, HasPart}
+
+pub length-part : (plane : Plane) (xs : List ℕ) (w x y count : ℕ) → length xs ≡ plane.width * plane.height → w ≡ plane.width →
+    y < plane.height → x + count ≤ plane.width → y * w + x + count ≤ length xs
+length-part plane xs w x y count size wide down across =
+    let fits : y * w + w ≤ w * plane.height = row_fits_turned y w w plane.height down (omega arith) in
+    let same : w * plane.height ≡ plane.width * plane.height = ap (λ n. n * plane.height) wide in
+    omega (arith, fits, same, size)
+
+pub part_count : (xs : List ℕ) (at count : ℕ) → at + count ≤ length xs → length (slice_range xs at (at + count)) ≡ count
+part_count xs at count within = length-between xs at (at + count) within ∙ omega arith
+
+pub part_samples : (plane : Plane) (xs : List ℕ) (w x y count : ℕ) → xs ≡ plane.samples → w ≡ plane.width →
+    y * w + x + count ≤ length xs →
+    IsRow (λ i. sample_at plane (x + i) y) (slice_range xs (y * w + x) (y * w + x + count))
+part_samples plane xs w x y count same wide within = λ i below.
+    let size : length (slice_range xs (y * w + x) (y * w + x + count)) ≡ count = part_count xs (y * w + x) count within in
+    get_or-between xs (y * w + x) (y * w + x + count) i 0 (omega (arith, size, below)) ∙
+    ap₂ (λ (ys : List ℕ) (n : ℕ). get_or ys (n) 0) same (ap (λ v. y * v + x + i) wide ∙ omega arith)
+
+pub no_part : (lead : ℕ) (f : ℕ → ℕ) (xs : List ℕ) → HasPart lead 0 f xs xs
+no_part lead f xs = record {
+  part = λ i below. absurd (omega arith);
+  before = λ k below. refl;
+  behind = λ k above. refl;
+}
+
+pub part_more : (lead count n v : ℕ) (f : ℕ → ℕ) (old new : List ℕ) → HasPart lead count f old new → n ≡ count + 1 →
+    lead + count < length new → v ≡ f count → HasPart lead n f old (slice_set new (lead + count) v)
+part_more lead count n v f old new h is room right = record {
+  part = λ i below.
+      ⊎_elim
+      (λ less. get_or-set_other new (lead + count) (lead + i) v 0 (λ e. omega arith) ∙ h.part i less)
+      (λ last.
+      let same : i ≡ count = omega arith in
+      ap (λ k. get_or (slice_set new (lead + count) v) (lead + k) 0) same
+      ∙ get_or-set_same new (lead + count) v 0 room ∙ right ∙ ap f (sym same))
+      (cases_lt i count);
+  before = λ k below. get_or-set_other new (lead + count) k v 0 (λ e. omega arith) ∙ h.before k below;
+  behind = λ k above. get_or-set_other new (lead + count) k v 0 (λ e. omega arith) ∙ h.behind k (omega arith);
+}
+
+-- one part behind another
+pub part_joined : (lead n m k next : ℕ) (f g : ℕ → ℕ) (old mid new : List ℕ) → HasPart lead n f old mid → HasPart next m g mid new →
+    next ≡ lead + n → ((i : ℕ) → i < m → g i ≡ f (n + i)) → k ≡ n + m → HasPart lead k f old new
+part_joined lead n m k next f g old mid new h h₂ at same is = record {
+  part = λ i below.
+      ⊎_elim
+      (λ early. h₂.before (lead + i) (omega arith) ∙ h.part i early)
+      (λ late.
+      let j : ℕ = i - n in
+      let place : next + j ≡ lead + i = omega arith in
+      let number : n + j ≡ i = omega arith in
+      ap (λ p. get_or new p 0) (sym place) ∙ h₂.part j (omega arith) ∙ same j (omega arith) ∙ ap f number)
+      (cases_lt i n);
+  before = λ p below. h₂.before p (omega arith) ∙ h.before p below;
+  behind = λ p above. h₂.behind p (omega arith) ∙ h.behind p (omega arith);
+}

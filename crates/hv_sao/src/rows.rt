@@ -1,0 +1,66 @@
+//! Parts of rows with their offsets.
+
+ghost use Rattle.std.specs.Prelude.{◌≡◌, ◌-◌, ◌+◌, ◌<◌, ◌≤◌, length};
+ghost use Rattle.hv_filter_model.specs.SampleAdaptiveOffset.{sao_sample, IsKind};
+ghost use Rattle.hv_sao.specs.Rows.{IsRow, HasPart, band_sample, edge_sample};
+
+use crate::edges::{EdgeRow, edge_row, part_of_row};
+use crate::samples::{band_category, edge_category, shown_sample};
+use hv_plan::{SaoComponent, SaoKind};
+use hv_types::Plane;
+
+/// Samples with the offsets of their bands.
+fn fill_bands(samples: &[u8], position: u8, component: SaoComponent, out: &mut [u8])
+    requires position { position < 32 }
+    requires room { length out.old ≡ length samples.now }
+    ensures { IsRow (band_sample component position samples.now) out.new }
+{
+    for i in 0..samples.len() {
+        out[i] = shown_sample(component, samples[i], band_category(samples[i], position));
+    }
+}
+
+/// Samples with the offsets of their edges, beside their two neighbours, from place `lead` of
+/// `out` on.
+fn put_edges(row: EdgeRow<'_>, component: SaoComponent, lead: usize, out: &mut [u8])
+    requires firsts { length row.first.now ≡ length row.samples.now }
+    requires seconds { length row.second.now ≡ length row.samples.now }
+    requires room { lead + length row.samples.now ≤ length out.old }
+    ensures { HasPart lead (length row.entry.samples.now)
+        (edge_sample component row.entry.samples.now row.entry.first.now row.entry.second.now)
+        out.old out.new }
+{
+    for i in 0..row.samples.len() {
+        let sample = row.samples[i];
+        let category = edge_category(sample, row.first[i], row.second[i]);
+        out[lead + i] = shown_sample(component, sample, category);
+    }
+}
+
+/// The samples of row `y` in the columns `from` to `to`, with their offsets.
+pub(crate) fn fill_row(
+    component: SaoComponent,
+    plane: &Plane,
+    y: u32,
+    from: u32,
+    to: u32,
+    out: &mut [u8],
+)
+    requires kind { IsKind component.kind }
+    requires down { y < plane.now.height }
+    requires order { from ≤ to }
+    requires across { to ≤ plane.now.width }
+    requires room { length out.old ≡ to - from }
+    ensures { IsRow (λ i. sao_sample component plane.now (from + i) y) out.new }
+{
+    let samples = part_of_row(plane, y, from, to - from);
+    match component.kind {
+        SaoKind::Off => out.copy_from_slice(samples),
+        SaoKind::Band { position } => fill_bands(samples, position, component, out),
+        SaoKind::Edge { class } => {
+            out.copy_from_slice(samples);
+            let row = edge_row(plane, class, y, from, to);
+            put_edges(row, component, (row.start - from) as usize, out);
+        }
+    }
+}

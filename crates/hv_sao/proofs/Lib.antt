@@ -1,5 +1,16 @@
+mod AddLemmas
+pub mod AreaLemmas
+mod CandidateLemmas
+mod ChosenLemmas
 mod EdgeLemmas
+mod GrowthLemmas
+mod KeyLemmas
+mod NumberLemmas
 mod PictureLemmas
 mod PlaneLemmas
+pub mod PowerLemmas
+mod PriceLemmas
 mod RowLemmas
 mod SampleLemmas
+pub mod TallyLemmas
+mod ValidityLemmas

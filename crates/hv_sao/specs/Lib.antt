@@ -1,3 +1,7 @@
+pub mod Areas
 pub mod Components
+pub mod Decisions
 pub mod Planes
+pub mod Prices
 pub mod Rows
+pub mod Tallies

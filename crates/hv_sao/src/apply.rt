@@ -10,13 +10,9 @@ ghost use Rattle.hv_sao.specs.Planes.{IsWritten, number_at, block_sample};
 
 use crate::component::Component;
 use crate::rows::fill_row;
+use crate::sides::{CHROMA_SIDE, LUMA_SIDE};
 use hv_plan::SaoParam;
 use hv_types::{Picture, Plane};
-
-/// The side of a coding tree block in luma (`CtbSizeY`), and in Cb and Cr.
-const LUMA_SIDE: u32 = 64;
-
-const CHROMA_SIDE: u32 = 32;
 
 /// Puts samples into row `y` in the columns `from` to `to`, and leaves every other sample.
 fn write_row(plane: &mut Plane, y: u32, from: u32, to: u32, samples: &[u8])

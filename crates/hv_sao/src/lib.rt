@@ -3,9 +3,20 @@
 #![tactic(auto)]
 
 mod apply;
+mod block;
+mod candidate;
+mod candidates;
+mod choose;
 mod component;
+mod cost;
 mod edges;
+mod offset;
+mod price;
 mod rows;
 mod samples;
+mod sides;
+mod tallies;
+mod tally;
 
 pub use apply::apply_sao;
+pub use choose::choose_sao;

@@ -8,7 +8,7 @@ use hv_plan::SaoComponent;
 
 /// A sample with an offset, cut to a byte (`Clip1`).
 #[inline(always)]
-fn with_offset(sample: u8, offset: i8) -> u8
+pub(crate) fn with_offset(sample: u8, offset: i8) -> u8
     ensures { result ≡ clip1 (pos sample +ℤ offset) }
 {
     (i16::from(sample) + i16::from(offset)).clamp(0, 255) as u8

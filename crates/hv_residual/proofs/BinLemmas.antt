@@ -73,7 +73,7 @@ a_zero a k v h lt =
     let t = lt_below v (2 ^ k) lt in
     rw e (rw t refl)
 
-below : (a b : ℕ) → 2 ^ a < 2 ^ b → a < b
+pub below : (a b : ℕ) → 2 ^ a < 2 ^ b → a < b
 below a b h = go (cases_lt a b)
   where
     go : (a < b) ⊎ (b ≤ a) → a < b

@@ -181,7 +181,7 @@ pub last_parts : (b : TransformBlock) (levels : List ℤ) (s i set : ℕ) (lower
 unfolding levels_below downwards
 last_parts b levels s i set lower all S eS el ea es = rw (eS, el, ea, es, add-one) refl
 
-length-downwards : (f : ℕ → ℤ) (n : ℕ) → length (downwards n f) ≡ n
+pub length-downwards : (f : ℕ → ℤ) (n : ℕ) → length (downwards n f) ≡ n
 unfolding downwards
 length-downwards f zero = refl
 length-downwards f (suc n) = ap suc (length-downwards f n)

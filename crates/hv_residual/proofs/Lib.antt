@@ -1,5 +1,6 @@
 mod BinLemmas
 mod ContextLemmas
+mod CountLemmas
 mod EarlierLemmas
 mod FlagLemmas
 mod GatheringLemmas

@@ -54,7 +54,7 @@ pub fn gather(levels: &[i16], block: Block, s: u8) -> [i16; 16]
 
 /// How many levels that are 0 stand before the first other.
 #[inline(always)]
-fn zeros_before(levels: &[i16]) -> usize
+pub fn zeros_before(levels: &[i16]) -> usize
     ensures value { result ≡ zeros_before levels.now }
     ensures most { result ≤ length levels.now }
 {

@@ -35,7 +35,7 @@ fn prefixes() -> &'static [u8; 32]
 
 /// The prefix of a coordinate of a block.
 #[inline(always)]
-fn prefix_of(block: Block, coordinate: u8) -> u8
+pub fn prefix_of(block: Block, coordinate: u8) -> u8
     requires { coordinate < 2 ^ block.log2 }
     ensures value { result ≡ prefix_of coordinate }
     ensures most { result ≤ 2 * block.log2 - 1 }
@@ -45,7 +45,7 @@ fn prefix_of(block: Block, coordinate: u8) -> u8
 
 /// How many bins the suffix behind a prefix has.
 #[inline(always)]
-fn suffix_length(prefix: u8) -> u8
+pub fn suffix_length(prefix: u8) -> u8
     requires { prefix ≤ 9 }
     ensures value { result ≡ suffix_length prefix }
     ensures most { result ≤ 3 }
@@ -133,7 +133,7 @@ fn put_suffix<B: BinSink>(sink: &mut B, block: Block, coordinate: u8)
 /// The coordinates of the last significant position, as they are coded: exchanged in the vertical
 /// scan.
 #[inline(always)]
-fn coded_position(block: Block, last: Last) -> Corner
+pub fn coded_position(block: Block, last: Last) -> Corner
     requires { last.sub_block < 2 ^ (block.log2 - 2) * 2 ^ (block.log2 - 2) }
     ensures value { corner_of result ≡ swapped_in block.scan
         (block_position block.scan block.log2 (16 * last.sub_block + last.position)) }

@@ -5,6 +5,7 @@ mod binarization;
 mod block;
 mod coded;
 mod contexts;
+mod counting;
 mod flags;
 mod gathering;
 mod last;
@@ -14,6 +15,7 @@ mod scans;
 mod significance;
 mod sub_blocks;
 
+pub use counting::count_residual;
 pub use hv_plan::{Pred, Scan};
 pub use hv_types::BinSink;
 pub use residual::{put_residual, scan_of};

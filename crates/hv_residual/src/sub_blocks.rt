@@ -114,7 +114,7 @@ fn put_coded_flag<B: BinSink>(
 
 /// The value of coded_sub_block_flag, which is inferred to be 1 for sub-block 0.
 #[inline(always)]
-fn flag_value(s: u8, any: bool) -> bool
+pub fn flag_value(s: u8, any: bool) -> bool
     ensures { result ≡ flag_value s any }
 {
     if s == 0 {

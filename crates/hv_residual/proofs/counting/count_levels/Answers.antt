@@ -1,0 +1,13 @@
+use Rattle.std.proofs.Common.{take, ◌∙◌, arith}
+use Rattle.hv_residual.proofs.SignificanceLemmas.{one_of}
+use Rattle.hv_residual.proofs.CountLemmas.{level_count_parts}
+use Rattle.hv_residual.proofs.counting.count_levels.Goals as goal
+
+pub returns-clause-value : goal.returns-clause-value
+returns-clause-value c =
+    let r = c.nonzero_levels-nonzero.result in
+    level_count_parts c.args.levels.now (take r.count r.magnitudes) r.count c.first_above_1-first.result
+    c.min.result c.from.result c.count_all_remaining-remaining.result
+    c.nonzero_levels-nonzero.ensures.magnitudes c.nonzero_levels-nonzero.ensures.count
+    c.first_above_1-first.ensures (omega (arith, c.min.ensures)) (c.from.ensures ∙ one_of _)
+    c.count_all_remaining-remaining.ensures.value

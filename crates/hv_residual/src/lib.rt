@@ -14,6 +14,8 @@ mod residual;
 mod scans;
 mod significance;
 mod sub_blocks;
+#[cfg(test)]
+mod tests;
 
 pub use counting::count_residual;
 pub use hv_plan::{Pred, Scan};

@@ -1,5 +1,5 @@
 -- How many bins the parts of a transform block have (7.3.8.11).
-use Rattle.std.proofs.Common.{◌≡◌, ℕ, zero, suc, ◌+◌, ◌-◌, ◌*◌, ◌/◌, ◌^◌, ◌<◌, ◌≤◌, Bool, true, false, cond, not, nat_lt, nat_le, ◌&&◌, min, List, [], ◌∷◌, ◌++◌, ℤ, length, map, refl, ap, sym, ◌∙◌, subst, arith, pow-suc, pow_pos, add-suc, suc-add, add-zero, add-one, length-append}
+use Rattle.std.proofs.Common.{◌≡◌, ℕ, zero, suc, ◌+◌, ◌-◌, ◌*◌, ◌/◌, ◌^◌, ◌<◌, ◌≤◌, Bool, true, false, cond, not, nat_lt, nat_le, ◌&&◌, min, List, [], ◌∷◌, ◌++◌, ℤ, length, refl, ap, sym, ◌∙◌, arith, pow-suc, pow_pos, add-zero, add-one, length-append}
 use Rattle.std.proofs.Math.Pow.{pow_mono}
 use Rattle.std.specs.Int.Count.{count_leading_zeros}
 use Rattle.std.proofs.lemmas.Nat.{leading_top}
@@ -10,7 +10,7 @@ use Rattle.hv_types.specs.declared.bins.CtxTable.TheVariants.{LastX, LastY}
 use Rattle.hv_residual_model.specs.UnitBins.{UnitQuestion, InBypass, UnitBin, unit_bin}
 use Rattle.hv_residual_model.specs.Binarization.{fixed_length_bins, truncated_unary_bins, exp_golomb_bins, bypass_at, remaining_bins}
 use Rattle.hv_residual_model.specs.ScanOrder.{Position, block_position}
-use Rattle.hv_residual_model.specs.ResidualContexts.{TransformBlock, ctxSet, last_prefix_at}
+use Rattle.hv_residual_model.specs.ResidualContexts.{TransformBlock, ctxSet}
 use Rattle.hv_residual_model.specs.ResidualSyntax.{Earlier, nothing_earlier, sig_coeff_of, any, bases, positions, suffix_length, first_of_prefix, swapped_in}
 use Rattle.hv_residual_model.specs.ResidualBins.{is_significant, magnitudes, signs, only_if_so, sig_coeff_bins, greater1_bins, greater2_bins, sign_bins, all_remaining_bins, bases_of, greater1_values, first_above_1, level_bins, levels_below, coded_sub_block_value, coded_sub_block_bins, sub_block_bins, behind_levels, sub_blocks_bins, last_sub_block_bins, downwards, last_bins, last_suffix_bins, last_prefix_bins, prefix_of, level_at, last_significant, residual_bins}
 use Rattle.hv_residual.specs.Levels.{zeros_before}

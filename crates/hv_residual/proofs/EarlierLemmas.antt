@@ -1,12 +1,11 @@
 -- What follows a sub-block, from what the code keeps of those before, and what it keeps then.
-use Rattle.std.proofs.Common.{add-one, drop, take, ◌≡◌, ◌≤◌, ◌<◌, ℕ, zero, suc, ◌+◌, ◌-◌, ◌*◌, Bool, true, false, cond, nat_eq, nat_lt, ◌&&◌, List, [], ◌∷◌, ◌++◌, ℤ, length, replicate, get_or, refl, ap, sym, ◌∙◌, subst, arith, append_assoc}
+use Rattle.std.proofs.Common.{add-one, drop, take, ◌≡◌, ◌≤◌, ◌<◌, ℕ, zero, suc, ◌+◌, ◌-◌, ◌*◌, Bool, true, false, cond, nat_eq, nat_lt, ◌&&◌, List, [], ◌∷◌, ◌++◌, ℤ, length, replicate, get_or, refl, ap, sym, ◌∙◌, arith, append_assoc}
 use Rattle.std.proofs.Math.Seq.{take-length}
 use Rattle.std.specs.Bool.{if◌then◌else◌}
 use Rattle.std.proofs.lemmas.Bool.Decides.{nat_tests}
-use Rattle.hv_residual_model.specs.UnitBins.{UnitBin}
 use Rattle.hv_residual_model.specs.ScanOrder.{Position}
 use Rattle.hv_residual_model.specs.ResidualContexts.{TransformBlock, ctxSet}
-use Rattle.hv_residual_model.specs.ResidualSyntax.{Earlier, nothing_earlier, had_greater1_after, sub_block_at, right_flag, below_flag, positions, any}
+use Rattle.hv_residual_model.specs.ResidualSyntax.{Earlier, had_greater1_after, sub_block_at, right_flag, below_flag, positions, any}
 use Rattle.hv_residual_model.specs.ResidualBins.{sig_coeff_bins, level_bins, greater1_of, greater1_bins, greater2_bins, sign_bins, all_remaining_bins, greater1_values, first_above_1, magnitudes, signs, any_significant, levels_below, downwards, coded_sub_block_value, coded_sub_block_bins, sub_block_bins, behind_levels, sub_blocks_bins, last_sub_block_bins, level_at}
 use Rattle.hv_residual_model.specs.ResidualSyntax.{bases}
 use Rattle.hv_residual.specs.Levels.{sig_question}

@@ -1,7 +1,7 @@
 -- What the loops over the flags of a sub-block (7.3.8.11) put, step by step.
-use Rattle.std.proofs.Common.{◌≡◌, ◌≤◌, ◌<◌, ◌-◌, ◌+◌, List, [], ◌∷◌, ◌++◌, ℕ, zero, suc, Bool, true, false, nat_lt, arith, subst, sym, refl, length, drop, get_or, drop-cons, add-one, drop_of_length-le}
+use Rattle.std.proofs.Common.{◌≡◌, ◌≤◌, ◌<◌, ◌-◌, ◌+◌, List, [], ◌∷◌, ℕ, zero, suc, Bool, false, nat_lt, arith, subst, sym, refl, length, drop, get_or, drop-cons, add-one, drop_of_length-le}
 use Rattle.hv_lemmas.proofs.ComparisonLemmas.{lt_below, lt_not_below}
-use Rattle.hv_residual_model.specs.UnitBins.{InBypass, UnitBin, unit_bin}
+use Rattle.hv_residual_model.specs.UnitBins.{InBypass, unit_bin}
 use Rattle.hv_residual_model.specs.ResidualContexts.{TransformBlock, next_greater1Ctx, greater1_at}
 use Rattle.hv_residual_model.specs.ResidualBins.{greater1_bins, first_above_1, sign_bins}
 

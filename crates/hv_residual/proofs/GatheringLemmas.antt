@@ -1,14 +1,15 @@
 -- The levels of a sub-block, gathered one after another, and the last one that isn't 0.
-use Rattle.std.proofs.Common.{◌≡◌, ℕ, zero, suc, ◌+◌, ◌-◌, ◌*◌, ◌/◌, ◌%◌, ◌^◌, ◌<◌, ◌≤◌, Bool, true, false, cond, List, [], ◌∷◌, ◌++◌, ℤ, pos, length, take, drop, set, get_or, slice_index_or, refl, ap, sym, ◌∙◌, subst, arith, add-zero, add-suc, add-one, append_assoc, append-nil, drop_of_length-le}
+use Rattle.std.proofs.Common.{◌≡◌, ℕ, zero, suc, ◌+◌, ◌-◌, ◌*◌, ◌/◌, ◌%◌, ◌^◌, ◌<◌, ◌≤◌, Bool, true, false, ◌&&◌, List, [], ◌∷◌, ◌++◌, ℤ, pos, length, replicate, take, drop, set, get_or, slice_index_or, refl, ap, sym, ◌∙◌, arith, add-zero, add-suc, append_assoc, append-nil, drop_of_length-le}
 use Rattle.std.proofs.Math.Seq.{take-length}
+use Rattle.std.proofs.lemmas.Bool.{and_parts}
 use Rattle.std.proofs.lemmas.List.{take_more_set}
-use Rattle.std.proofs.Math.Nat.{mul-add-div, mul-add-mod_self_left}
-use Rattle.hv_residual_model.specs.ScanOrder.{Position, position_at, block_position}
+use Rattle.hv_residual_model.specs.ScanOrder.{Position, at, position_at, block_position}
 use Rattle.hv_residual_model.specs.ResidualContexts.{TransformBlock}
 use Rattle.hv_residual_model.specs.ResidualSyntax.{sub_block_at}
 use Rattle.hv_residual_model.specs.ResidualBins.{level_at, downwards, levels_below, is_significant, last_below, last_significant}
 use Rattle.hv_residual.specs.Levels.{zeros_before}
 use Rattle.hv_residual.proofs.FlagLemmas.{split_at}
+use Rattle.hv_residual.proofs.ScanLemmas.{inside_sub_block}
 
 -- ---- numbers of sub-blocks and positions
 pub quotient : (s i : ℕ) → i < 16 → (16 * s + i) / 16 ≡ s
@@ -157,3 +158,40 @@ whole_block b levels n e = ap (λ (k : ℕ). last_below b levels k) (sym e)
 pub nothing_below : (b : TransformBlock) (levels : List ℤ) (s : ℕ) → s ≤ 0 →
     last_below b levels (16 * s) ≡ 0
 nothing_below b levels s h = let e : s ≡ 0 = omega arith in rw e refl
+
+-- ---- a sub-block that is 0
+all_zeros : (n : ℕ) (f : ℕ → ℤ) → ((i : ℕ) → i < n → f i ≡ pos 0) →
+    downwards n f ≡ replicate n (pos 0)
+unfolding downwards
+all_zeros zero f zeros = refl
+all_zeros (suc n) f zeros =
+    let first : f n ≡ pos 0 = zeros n (omega arith) in
+    let later = all_zeros n f (λ i h. zeros i (omega arith)) in
+    rw (first, later) refl
+
+pub clear_levels : (b : TransformBlock) (levels : List ℤ) (s : ℕ) (S : Position) →
+    S ≡ sub_block_at b s →
+    ((x y : ℕ) → x < 4 → y < 4 → level_by_rows b levels S (at x y) ≡ pos 0) →
+    replicate 16 (pos 0) ≡ levels_below b levels s 16
+unfolding levels_below
+clear_levels b levels s S eS zeros =
+    sym (all_zeros 16 (level_of b levels s) (λ i h.
+    let inside = inside_sub_block b.scanIdx i h in
+    let P : Position = position_at b.scanIdx 2 i in
+    level_in_sub_block b levels s i h ∙
+    rw (← eS) (zeros P.x P.y inside.0 inside.1)))
+
+pub four_rows : (Holds : ℕ → ℕ → Type 0) (a b c d : Bool) →
+    (a ≡ true → (x : ℕ) → x < 4 → Holds x 0) → (b ≡ true → (x : ℕ) → x < 4 → Holds x 1) →
+    (c ≡ true → (x : ℕ) → x < 4 → Holds x 2) → (d ≡ true → (x : ℕ) → x < 4 → Holds x 3) →
+    ((a && b) && (c && d)) ≡ true → (x y : ℕ) → x < 4 → y < 4 → Holds x y
+four_rows Holds a b c d first second third fourth all x zero h k =
+    first (and_parts a b (and_parts (a && b) (c && d) all).0).0 x h
+four_rows Holds a b c d first second third fourth all x (suc zero) h k =
+    second (and_parts a b (and_parts (a && b) (c && d) all).0).1 x h
+four_rows Holds a b c d first second third fourth all x (suc (suc zero)) h k =
+    third (and_parts c d (and_parts (a && b) (c && d) all).1).0 x h
+four_rows Holds a b c d first second third fourth all x (suc (suc (suc zero))) h k =
+    fourth (and_parts c d (and_parts (a && b) (c && d) all).1).1 x h
+four_rows Holds a b c d first second third fourth all x (suc (suc (suc (suc y)))) h k =
+    absurd (omega arith)

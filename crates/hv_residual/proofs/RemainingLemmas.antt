@@ -1,5 +1,5 @@
 -- What the loop over the remaining levels of a sub-block (7.3.8.11) puts, step by step.
-use Rattle.std.proofs.Common.{◌≡◌, ◌≤◌, ◌<◌, ◌-◌, ◌+◌, List, [], ◌∷◌, ◌++◌, ℕ, zero, suc, Bool, true, false, cond, nat_lt, arith, subst, sym, refl, ap, ◌∙◌, length, drop, get_or, replicate, drop_of_length-le}
+use Rattle.std.proofs.Common.{◌≡◌, ◌≤◌, ◌<◌, ◌-◌, ◌+◌, List, [], ◌∷◌, ◌++◌, ℕ, zero, suc, Bool, true, false, cond, nat_lt, arith, subst, sym, refl, ap, ◌∙◌, length, drop, get_or, drop_of_length-le}
 use Rattle.hv_residual_model.specs.UnitBins.{UnitBin}
 use Rattle.hv_residual_model.specs.Binarization.{remaining_bins}
 use Rattle.hv_residual_model.specs.ResidualSyntax.{Base, base, bases, next_cRiceParam}

@@ -8,7 +8,7 @@ use Rattle.std.proofs.lemmas.Bool.{and_parts}
 use Rattle.std.proofs.lemmas.List.{length-map}
 use Rattle.std.proofs.lemmas.Bool.Decides.{nat_tests}
 use Rattle.hv_lemmas.specs.Lists.{tabulate}
-use Rattle.hv_lemmas.proofs.ComputedLemmas.{holds_at}
+use Rattle.hv_lemmas.proofs.ComputedLemmas.{all_below, holds_at, holds_below}
 use Rattle.hv_plan.specs.declared.prediction.Scan.{Scan}
 use Rattle.hv_plan.specs.declared.prediction.Scan.TheVariants.{Diagonal, Horizontal, Vertical}
 use Rattle.hv_residual_model.specs.ScanOrder.{Position, at, scan_order, position_at}
@@ -102,3 +102,21 @@ sixteen_times log2 h =
     let f = four_times log2 h in
     let w : ℕ = 2 ^ (log2 - 2) in
     subst (λ (v : ℕ). 16 * (w * w) ≡ v * v) f (omega arith)
+
+-- ---- positions of a sub-block are inside of it
+in_square : Scan → ℕ → Bool
+in_square scan i = nat_lt (position_at scan 2 i).x 4 && nat_lt (position_at scan 2 i).y 4
+
+all_in_square : (scan : Scan) → all_below 16 (in_square scan) ≡ true
+unfolding in_square scan_order tabulate
+all_in_square Diagonal = refl
+all_in_square Horizontal = refl
+all_in_square Vertical = refl
+
+pub inside_sub_block : (scan : Scan) (i : ℕ) → i < 16 →
+    ((position_at scan 2 i).x < 4) × ((position_at scan 2 i).y < 4)
+unfolding in_square
+inside_sub_block scan i h =
+    let parts = and_parts (nat_lt (position_at scan 2 i).x 4) (nat_lt (position_at scan 2 i).y 4)
+    (holds_below 16 (in_square scan) (all_in_square scan) i h) in
+    (less _ _ parts.0, less _ _ parts.1)

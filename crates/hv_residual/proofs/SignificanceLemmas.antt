@@ -1,5 +1,5 @@
 -- The levels of a sub-block that aren't 0, gathered one after another.
-use Rattle.std.proofs.Common.{◌&&◌, not, nat_eq, length-drop, ◌≡◌, ◌≤◌, ◌<◌, ◌+◌, List, [], ◌∷◌, ◌++◌, ℕ, zero, suc, Bool, true, false, cond, ℤ, pos, arith, subst, sym, refl, ap, ◌∙◌, length, drop, take, set, get_or, append_assoc, append-nil, add-zero, drop_of_length-le}
+use Rattle.std.proofs.Common.{◌&&◌, not, nat_eq, length-drop, ◌≡◌, ◌≤◌, ◌<◌, ◌+◌, List, [], ◌∷◌, ◌++◌, ℕ, suc, Bool, true, false, cond, ℤ, pos, arith, sym, refl, ap, ◌∙◌, length, drop, take, set, get_or, append_assoc, append-nil, add-zero, drop_of_length-le}
 use Rattle.std.specs.Int.{is_negative}
 use Rattle.std.specs.Int.RustNames.{unsigned_abs}
 use Rattle.std.proofs.lemmas.List.{take-set, take_more_set}

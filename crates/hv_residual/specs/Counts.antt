@@ -1,5 +1,5 @@
 -- How many bins the parts of a transform block have, by their levels alone (7.3.8.11).
-use Rattle.std.specs.Prelude.{ℕ, zero, suc, ◌+◌, Bool, true, false, cond, not, ◌&&◌, min, List, [], ◌∷◌, ◌++◌, ℤ, length}
+use Rattle.std.specs.Prelude.{ℕ, zero, suc, ◌+◌, Bool, true, false, cond, not, ◌&&◌, min, List, [], ◌∷◌, ℤ, length}
 use Rattle.hv_residual_model.specs.ResidualContexts.{TransformBlock}
 use Rattle.hv_residual_model.specs.ResidualSyntax.{any, positions}
 use Rattle.hv_residual_model.specs.ResidualBins.{is_significant, magnitudes, greater1_values, bases_of, all_remaining_bins, levels_below, coded_sub_block_value}

@@ -1,7 +1,7 @@
 //! The levels of a sub-block in the order in which they are coded, and the last one of a block that
 //! isn't 0 (7.3.8.11).
 
-ghost use Rattle.std.specs.Prelude.{◌≡◌, ◌+◌, ◌-◌, ◌*◌, ◌^◌, ◌<◌, ◌≤◌, length, pos, slice_index_or};
+ghost use Rattle.std.specs.Prelude.{◌≡◌, ◌+◌, ◌-◌, ◌*◌, ◌^◌, ◌<◌, ◌≤◌, ℕ, true, length, pos, slice_index_or};
 ghost use Rattle.hv_residual_model.specs.ScanOrder.{position_at};
 ghost use Rattle.hv_residual_model.specs.ResidualBins.{levels_below, last_significant};
 ghost use Rattle.hv_residual.specs.Blocks.{block_of};
@@ -37,6 +37,46 @@ fn level_in(levels: &[i16], block: Block, corner: Spot, i: u8) -> i16
     levels[row * side(block) + column]
 }
 
+/// Whether four levels of a row are 0.
+#[inline(always)]
+fn are_zero(levels: &[i16], at: usize) -> bool
+    requires { at + 4 ≤ length levels.now }
+    ensures { result ≡ true → (x : ℕ) → x < 4 →
+        slice_index_or levels.now (at + x) (pos 0) ≡ pos 0 }
+{
+    let first = (levels[at] == 0) & (levels[at + 1] == 0);
+    let second = (levels[at + 2] == 0) & (levels[at + 3] == 0);
+    first & second
+}
+
+/// Whether a row of a sub-block is 0.
+#[inline(always)]
+fn is_clear_row(levels: &[i16], block: Block, corner: Spot, y: u8) -> bool
+    requires whole { length levels.now ≡ 2 ^ block.log2 * 2 ^ block.log2 }
+    requires column { corner.x < 2 ^ (block.log2 - 2) }
+    requires row { corner.y < 2 ^ (block.log2 - 2) }
+    requires y { y < 4 }
+    ensures { result ≡ true → (x : ℕ) → x < 4 → slice_index_or levels.now
+        ((4 * corner.y + y) * 2 ^ block.log2 + (4 * corner.x + x)) (pos 0) ≡ pos 0 }
+{
+    let row = usize::from(4 * corner.y + y);
+    are_zero(levels, row * side(block) + usize::from(4 * corner.x))
+}
+
+/// Whether a sub-block is 0, row by row.
+#[inline(always)]
+fn is_clear(levels: &[i16], block: Block, corner: Spot) -> bool
+    requires whole { length levels.now ≡ 2 ^ block.log2 * 2 ^ block.log2 }
+    requires column { corner.x < 2 ^ (block.log2 - 2) }
+    requires row { corner.y < 2 ^ (block.log2 - 2) }
+    ensures { result ≡ true → (x y : ℕ) → x < 4 → y < 4 → slice_index_or levels.now
+        ((4 * corner.y + y) * 2 ^ block.log2 + (4 * corner.x + x)) (pos 0) ≡ pos 0 }
+{
+    let upper = is_clear_row(levels, block, corner, 0) & is_clear_row(levels, block, corner, 1);
+    let lower = is_clear_row(levels, block, corner, 2) & is_clear_row(levels, block, corner, 3);
+    upper & lower
+}
+
 /// The levels of a sub-block, from position 15 down to position 0.
 #[inline(always)]
 pub fn gather(levels: &[i16], block: Block, s: u8) -> [i16; 16]
@@ -45,6 +85,9 @@ pub fn gather(levels: &[i16], block: Block, s: u8) -> [i16; 16]
     ensures { result ≡ levels_below (block_of block) levels.now s 16 }
 {
     let corner = sub_block(block, s);
+    if is_clear(levels, block, corner) {
+        return [0; 16];
+    }
     let mut all = [0i16; 16];
     for k in 0..16u8 {
         all[usize::from(k)] = level_in(levels, block, corner, 15 - k);

@@ -1,4 +1,9 @@
-//! The levels of a transform block (7.3.8.11): put as bins into a sink, and their bins counted.
+//! The levels of a transform block (`residual_coding`, 7.3.8.11): `put_residual` puts them as bins into
+//! a sink, and `count_residual` says how many bins they are without visiting one. `scan_of` says
+//! which scan a block has (7.4.9.11), and `any_significant` whether it is coded at all.
+//!
+//! A block of 2^log2 columns and rows stands by rows, each from left to right; log2 is 2 to 5. None
+//! of them takes memory, and each always answers.
 #![tactic(auto)]
 
 mod binarization;
@@ -21,3 +26,4 @@ pub use counting::count_residual;
 pub use hv_plan::{Pred, Scan};
 pub use hv_types::BinSink;
 pub use residual::{put_residual, scan_of};
+pub use significance::any_significant;

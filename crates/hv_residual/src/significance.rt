@@ -17,7 +17,7 @@ pub fn is_significant(level: i16) -> bool
     level != 0
 }
 
-/// Whether one of these levels isn't 0.
+/// Whether one of these levels isn't 0, as `put_residual` and `count_residual` ask of a block.
 #[inline(always)]
 pub fn any_significant(levels: &[i16]) -> bool
     ensures { result ≡ any_significant levels.now }

@@ -6,8 +6,7 @@
 ghost use Rattle.std.specs.Prelude.{◌≡◌, ◌*◌, ◌^◌, ◌≤◌, length, true};
 ghost use Rattle.hv_residual_model.specs.ResidualBins.{any_significant};
 
-use crate::significance::any_significant;
-use crate::{BinSink, Pred, Scan, count_residual, put_residual, scan_of};
+use crate::{BinSink, Pred, Scan, any_significant, count_residual, put_residual, scan_of};
 use hv_plan::Mv;
 use hv_types::{Ctx, CtxTable};
 

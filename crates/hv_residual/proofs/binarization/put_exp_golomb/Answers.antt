@@ -1,4 +1,4 @@
-use Rattle.std.proofs.Common.{◌≤◌, ◌<◌, ◌+◌, ◌^◌, [], ◌∷◌, ℕ, true, false, arith, sym, refl, append-nil}
+use Rattle.std.proofs.Common.{◌≤◌, ◌<◌, ◌+◌, ◌^◌, [], ◌∷◌, true, false, arith, sym, refl, append-nil}
 use Rattle.hv_residual_model.specs.UnitBins.{InBypass, unit_bin}
 use Rattle.hv_residual_model.specs.Binarization.{fixed_length_bins}
 use Rattle.hv_residual.proofs.PuttingLemmas.{going_start, going_by, going_done}

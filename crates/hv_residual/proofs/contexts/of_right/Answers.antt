@@ -1,4 +1,4 @@
-use Rattle.std.proofs.Common.{◌≡◌, List, ℕ, map, ap, sym, true, false}
+use Rattle.std.proofs.Common.{◌≡◌, map, ap, sym, true, false}
 use Rattle.hv_lemmas.specs.Lists.{tabulate}
 use Rattle.hv_plan.specs.declared.prediction.Scan.{Scan}
 use Rattle.hv_plan.specs.declared.prediction.Scan.TheVariants.{Diagonal, Horizontal, Vertical}

@@ -1,8 +1,8 @@
-use Rattle.std.proofs.Common.{◌≡◌, ◌≢◌, ◌+◌, arith, sym}
+use Rattle.std.proofs.Common.{◌≢◌, ◌+◌, arith, sym}
 use Rattle.hv_residual_model.specs.ScanOrder.{Position, position_at}
-use Rattle.hv_residual_model.specs.ResidualContexts.{by_neighbours, sigCtx}
+use Rattle.hv_residual_model.specs.ResidualContexts.{by_neighbours}
 use Rattle.hv_residual.specs.Blocks.{block_of, spot_of}
-use Rattle.hv_residual.proofs.ContextLemmas.{first_position, not_first, at_first, not_at_first, along_scan, not_all_first}
+use Rattle.hv_residual.proofs.ContextLemmas.{first_position, at_first, not_at_first, along_scan, not_all_first}
 use Rattle.hv_residual.proofs.contexts.sig_ctx.Goals as goal
 
 pub returns-then-corner-i-eq0-clause-value : goal.returns-then-corner-i-eq0-clause-value

@@ -1,4 +1,4 @@
-use Rattle.std.proofs.Common.{◌≡◌, ◌-◌, ◌+◌, ◌++◌, length, length-append, ap, ◌∙◌, refl, arith, get_or, drop, List}
+use Rattle.std.proofs.Common.{◌-◌, ◌+◌, length, length-append, ap, ◌∙◌, refl, arith, get_or, drop, List}
 use Rattle.hv_residual_model.specs.UnitBins.{UnitBin}
 use Rattle.hv_residual_model.specs.ResidualBins.{all_remaining_bins}
 use Rattle.hv_residual.specs.Levels.{one_remaining_bins}

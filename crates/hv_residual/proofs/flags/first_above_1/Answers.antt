@@ -1,5 +1,5 @@
 use Rattle.std.proofs.Common.{sym, ◌∙◌, arith}
-use Rattle.hv_residual.proofs.FlagLemmas.{none_above, end_above, above, not_above}
+use Rattle.hv_residual.proofs.FlagLemmas.{none_above, above, not_above}
 use Rattle.hv_residual.proofs.flags.first_above_1.Goals as goal
 
 pub loop-m-preserved : goal.loop-m-preserved

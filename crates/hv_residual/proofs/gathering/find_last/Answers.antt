@@ -1,4 +1,4 @@
-use Rattle.std.proofs.Common.{arith, ◌∙◌, sym, ap, ℕ, ◌*◌}
+use Rattle.std.proofs.Common.{arith, ◌∙◌, ap, ℕ, ◌*◌}
 use Rattle.hv_residual.specs.Blocks.{block_of}
 use Rattle.hv_residual.proofs.ScanLemmas.{sixteen_times}
 use Rattle.hv_residual.proofs.GatheringLemmas.{whole_block, find_step, skip_step}

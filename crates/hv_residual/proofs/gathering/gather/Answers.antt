@@ -3,7 +3,7 @@ use Rattle.std.proofs.lemmas.List.{length-set}
 use mir.Syntax.{w16}
 use mir.Val.{to_z, of_z}
 use Rattle.hv_residual.specs.Blocks.{block_of, spot_of}
-use Rattle.hv_residual.proofs.GatheringLemmas.{gather_step, gathered, as_levels_below}
+use Rattle.hv_residual.proofs.GatheringLemmas.{clear_levels, gather_step, gathered, as_levels_below}
 use Rattle.hv_residual.proofs.gathering.gather.Goals as goal
 
 pub loop-k-preserved : goal.loop-k-preserved
@@ -21,3 +21,8 @@ pub returns : goal.returns
 returns c =
     gathered c.loop-k.all c.loop-k.k _ c.loop-k.invariant.room c.loop-k-test.false c.loop-k.auto.k-end c.loop-k.invariant.levels ∙
     sym (as_levels_below (block_of c.args.block) c.args.levels.now c.args.s)
+
+pub returns-then-is_clear : goal.returns-then-is_clear
+returns-then-is_clear c =
+    clear_levels (block_of c.args.block) c.args.levels.now c.args.s (spot_of c.sub_block-corner.result)
+    c.sub_block-corner.ensures.spot (c.is_clear.ensures c.if-is_clear.true)

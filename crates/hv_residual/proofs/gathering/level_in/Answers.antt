@@ -1,4 +1,4 @@
-use Rattle.std.proofs.Common.{arith, ◌≡◌, ◌*◌}
+use Rattle.std.proofs.Common.{arith}
 use Rattle.hv_residual.proofs.ScanLemmas.{inside_block}
 use Rattle.hv_residual.proofs.gathering.level_in.Goals as goal
 

@@ -1,4 +1,4 @@
-use Rattle.std.proofs.Common.{◌≡◌, ◌∙◌, arith, ap}
+use Rattle.std.proofs.Common.{◌∙◌, arith, ap}
 use Rattle.hv_residual_model.specs.ScanOrder.{Position}
 use Rattle.hv_residual_model.specs.ResidualSyntax.{swapped_in}
 use Rattle.hv_residual.specs.Blocks.{block_of, spot_of}

@@ -1,5 +1,4 @@
-use Rattle.std.proofs.Common.{◌≡◌, get_or, arith, ◌∙◌, ap}
-use Rattle.hv_residual_model.specs.ResidualBins.{prefix_of}
+use Rattle.std.proofs.Common.{arith}
 use Rattle.hv_residual.proofs.LastLemmas.{below_32, prefix_entry, prefix_fits}
 use Rattle.hv_residual.proofs.last.prefix_of.Goals as goal
 

@@ -1,4 +1,4 @@
-use Rattle.std.proofs.Common.{◌+◌, ◌*◌, ◌-◌, ◌≡◌, ap, ℕ, sym}
+use Rattle.std.proofs.Common.{◌+◌, ◌*◌}
 use Rattle.hv_residual_model.specs.UnitBins.{PutsUnit}
 use Rattle.hv_types.specs.declared.bins.CtxTable.TheVariants.{LastX, LastY}
 use Rattle.hv_residual_model.specs.ResidualBins.{last_prefix_bins}

@@ -1,4 +1,4 @@
-use Rattle.std.proofs.Common.{◌-◌, ◌*◌, [], ◌∷◌, true, false, refl, arith}
+use Rattle.std.proofs.Common.{◌-◌, ◌*◌, [], ◌∷◌, true, false, refl}
 use Rattle.hv_residual_model.specs.UnitBins.{unit_bin}
 use Rattle.hv_residual_model.specs.ResidualContexts.{last_prefix_at}
 use Rattle.hv_residual.specs.Blocks.{block_of}

@@ -1,4 +1,3 @@
-use Rattle.hv_residual.specs.Blocks.{block_of}
 use Rattle.hv_residual.proofs.PuttingLemmas.{puts_both, puts_same}
 use Rattle.hv_residual.proofs.ResidualLemmas.{residual_parts}
 use Rattle.hv_residual.proofs.residual.put_residual.Goals as goal

@@ -1,4 +1,4 @@
-use Rattle.std.proofs.Common.{◌≡◌, ◌+◌, ◌-◌, List, ℤ, take, drop, true, false, refl, arith, subst}
+use Rattle.std.proofs.Common.{◌+◌, ◌-◌, true, false, refl, arith, subst}
 use Rattle.hv_residual_model.specs.ResidualSyntax.{Earlier, nothing_earlier}
 use Rattle.hv_residual_model.specs.ResidualBins.{levels_below}
 use Rattle.hv_residual.specs.Blocks.{block_of, spot_of}

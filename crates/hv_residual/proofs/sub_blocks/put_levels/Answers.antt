@@ -1,4 +1,4 @@
-use Rattle.std.proofs.Common.{take, ◌∙◌, ap}
+use Rattle.std.proofs.Common.{take, ◌∙◌}
 use Rattle.hv_residual.specs.Blocks.{block_of}
 use Rattle.hv_residual.proofs.PuttingLemmas.{puts_both, puts_same}
 use Rattle.hv_residual.proofs.EarlierLemmas.{level_parts, had_is}

@@ -1,4 +1,4 @@
-use Rattle.std.proofs.Common.{◌≡◌, List, ℤ, ap, ◌∙◌, ◌+◌, ℕ, sym, subst}
+use Rattle.std.proofs.Common.{◌≡◌, List, ℤ, ap, ◌∙◌, ℕ, sym, subst}
 use Rattle.hv_residual_model.specs.ResidualSyntax.{Earlier, positions}
 use Rattle.hv_residual_model.specs.ResidualBins.{levels_below, coded_sub_block_value}
 use Rattle.hv_residual.specs.Blocks.{block_of, spot_of}

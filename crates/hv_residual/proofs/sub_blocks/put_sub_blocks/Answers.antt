@@ -1,4 +1,4 @@
-use Rattle.std.proofs.Common.{◌-◌, arith}
+use Rattle.std.proofs.Common.{arith}
 use Rattle.hv_residual.specs.Blocks.{block_of}
 use Rattle.hv_residual.proofs.PuttingLemmas.{going_start, going_by, going_done}
 use Rattle.hv_residual.proofs.EarlierLemmas.{next_sub_block, no_sub_block}

@@ -591,13 +591,32 @@ fn run_predict_intra<const LOG2: u8, const SAMPLES: usize>(
     u64::from(block[place])
 }
 
-const INTRA_KERNELS: [(&str, IntraKernel, usize); 3] = [
-    ("predict_intra_8", run_predict_intra::<3, 64>, 33),
-    ("predict_intra_16", run_predict_intra::<4, 256>, 65),
-    ("predict_intra_32", run_predict_intra::<5, 1024>, 129),
+// Each with the number of its neighbours, its first mode, and how many modes it goes over.
+const INTRA_KERNELS: [(&str, IntraKernel, usize, usize, usize); 15] = [
+    ("predict_intra_8", run_predict_intra::<3, 64>, 33, 0, 35),
+    ("predict_intra_16", run_predict_intra::<4, 256>, 65, 0, 35),
+    ("predict_intra_32", run_predict_intra::<5, 1024>, 129, 0, 35),
+    ("planar_8", run_predict_intra::<3, 64>, 33, 0, 1),
+    ("planar_16", run_predict_intra::<4, 256>, 65, 0, 1),
+    ("planar_32", run_predict_intra::<5, 1024>, 129, 0, 1),
+    ("dc_8", run_predict_intra::<3, 64>, 33, 1, 1),
+    ("dc_16", run_predict_intra::<4, 256>, 65, 1, 1),
+    ("dc_32", run_predict_intra::<5, 1024>, 129, 1, 1),
+    ("angular_left_8", run_predict_intra::<3, 64>, 33, 2, 16),
+    ("angular_left_16", run_predict_intra::<4, 256>, 65, 2, 16),
+    ("angular_left_32", run_predict_intra::<5, 1024>, 129, 2, 16),
+    ("angular_above_8", run_predict_intra::<3, 64>, 33, 18, 17),
+    ("angular_above_16", run_predict_intra::<4, 256>, 65, 18, 17),
+    ("angular_above_32", run_predict_intra::<5, 1024>, 129, 18, 17),
 ];
 
-fn checksum_of_intra(kernel: IntraKernel, count: usize, rounds: usize) -> u64 {
+fn checksum_of_intra(
+    kernel: IntraKernel,
+    count: usize,
+    first: usize,
+    modes: usize,
+    rounds: usize,
+) -> u64 {
     let mut state = 5;
     let mut line = Vec::new();
     for _ in 0..count {
@@ -607,7 +626,7 @@ fn checksum_of_intra(kernel: IntraKernel, count: usize, rounds: usize) -> u64 {
     let mut sum = 0u64;
     for round in 0..rounds {
         for place in 0..CALLS {
-            let mode = ((place + round % 35) % 35) as u8;
+            let mode = (first + (place + round % 9520) % modes) as u8;
             sum = sum.wrapping_add(kernel(&line, mode, place));
         }
     }
@@ -1015,9 +1034,10 @@ fn main() -> ExitCode {
             println!("{known} {}", checksum_of_bits(kernel, rounds));
         }
     }
-    for (known, kernel, count) in INTRA_KERNELS {
+    for (known, kernel, count, first, modes) in INTRA_KERNELS {
         if name == "all" || name == known {
-            println!("{known} {}", checksum_of_intra(kernel, count, rounds));
+            let sum = checksum_of_intra(kernel, count, first, modes, rounds);
+            println!("{known} {sum}");
         }
     }
     for (known, luma, size, mv) in INTER_KERNELS {

@@ -1,13 +1,30 @@
 //! The kernels of intra prediction that can be run.
-ghost use Rattle.std.specs.Prelude.{◌≡◌, ◌<◌, length};
+ghost use Rattle.std.specs.Prelude.{◌≡◌, ◌+◌, ◌<◌, ◌≤◌, length};
 
 use hv_intra::{Line, predict_intra};
 
+/// The modes that a kernel goes over.
 #[derive(Clone, Copy, PartialEq, Eq)]
-pub enum IntraKernel {
-    Predict8,
-    Predict16,
-    Predict32,
+pub enum Modes {
+    All,
+    Planar,
+    Dc,
+    Left,
+    Above,
+}
+
+/// The side of the blocks that a kernel predicts.
+#[derive(Clone, Copy, PartialEq, Eq)]
+pub enum BlockSide {
+    Of8,
+    Of16,
+    Of32,
+}
+
+#[derive(Clone, Copy, PartialEq, Eq)]
+pub struct IntraKernel {
+    modes: Modes,
+    side: BlockSide,
 }
 
 /// A line of noise for a block of each side.
@@ -43,20 +60,104 @@ impl Lines {
     }
 }
 
+impl Modes {
+    /// One of them, by turns.
+    fn at(self, turn: usize) -> u8
+        ensures { result ≤ 34 }
+    {
+        match self {
+            Modes::All => (turn % 35) as u8,
+            Modes::Planar => 0,
+            Modes::Dc => 1,
+            Modes::Left => 2 + (turn % 16) as u8,
+            Modes::Above => 18 + (turn % 17) as u8,
+        }
+    }
+}
+
 impl IntraKernel {
     /// All kernels, in the order in which they are run.
-    pub const ALL: [IntraKernel; 3] = [
-        IntraKernel::Predict8,
-        IntraKernel::Predict16,
-        IntraKernel::Predict32,
+    pub const ALL: [IntraKernel; 15] = [
+        IntraKernel {
+            modes: Modes::All,
+            side: BlockSide::Of8,
+        },
+        IntraKernel {
+            modes: Modes::All,
+            side: BlockSide::Of16,
+        },
+        IntraKernel {
+            modes: Modes::All,
+            side: BlockSide::Of32,
+        },
+        IntraKernel {
+            modes: Modes::Planar,
+            side: BlockSide::Of8,
+        },
+        IntraKernel {
+            modes: Modes::Planar,
+            side: BlockSide::Of16,
+        },
+        IntraKernel {
+            modes: Modes::Planar,
+            side: BlockSide::Of32,
+        },
+        IntraKernel {
+            modes: Modes::Dc,
+            side: BlockSide::Of8,
+        },
+        IntraKernel {
+            modes: Modes::Dc,
+            side: BlockSide::Of16,
+        },
+        IntraKernel {
+            modes: Modes::Dc,
+            side: BlockSide::Of32,
+        },
+        IntraKernel {
+            modes: Modes::Left,
+            side: BlockSide::Of8,
+        },
+        IntraKernel {
+            modes: Modes::Left,
+            side: BlockSide::Of16,
+        },
+        IntraKernel {
+            modes: Modes::Left,
+            side: BlockSide::Of32,
+        },
+        IntraKernel {
+            modes: Modes::Above,
+            side: BlockSide::Of8,
+        },
+        IntraKernel {
+            modes: Modes::Above,
+            side: BlockSide::Of16,
+        },
+        IntraKernel {
+            modes: Modes::Above,
+            side: BlockSide::Of32,
+        },
     ];
 
     /// The word by which a user asks for it.
     pub fn name(self) -> &'static str {
-        match self {
-            IntraKernel::Predict8 => "predict_intra_8",
-            IntraKernel::Predict16 => "predict_intra_16",
-            IntraKernel::Predict32 => "predict_intra_32",
+        match (self.modes, self.side) {
+            (Modes::All, BlockSide::Of8) => "predict_intra_8",
+            (Modes::All, BlockSide::Of16) => "predict_intra_16",
+            (Modes::All, BlockSide::Of32) => "predict_intra_32",
+            (Modes::Planar, BlockSide::Of8) => "planar_8",
+            (Modes::Planar, BlockSide::Of16) => "planar_16",
+            (Modes::Planar, BlockSide::Of32) => "planar_32",
+            (Modes::Dc, BlockSide::Of8) => "dc_8",
+            (Modes::Dc, BlockSide::Of16) => "dc_16",
+            (Modes::Dc, BlockSide::Of32) => "dc_32",
+            (Modes::Left, BlockSide::Of8) => "angular_left_8",
+            (Modes::Left, BlockSide::Of16) => "angular_left_16",
+            (Modes::Left, BlockSide::Of32) => "angular_left_32",
+            (Modes::Above, BlockSide::Of8) => "angular_above_8",
+            (Modes::Above, BlockSide::Of16) => "angular_above_16",
+            (Modes::Above, BlockSide::Of32) => "angular_above_32",
         }
     }
 
@@ -75,19 +176,19 @@ impl IntraKernel {
     pub fn run(self, lines: &Lines, place: usize, round: u32) -> u64
         requires { place < 64 }
     {
-        let mode = ((place + (round % 35) as usize) % 35) as u8;
-        match self {
-            IntraKernel::Predict8 => {
+        let mode = self.modes.at(place + (round % 9520) as usize);
+        match self.side {
+            BlockSide::Of8 => {
                 let mut block = [0; 64];
                 predict_intra(&lines.of_8, 3, mode, true, &mut block);
                 u64::from(block[place])
             }
-            IntraKernel::Predict16 => {
+            BlockSide::Of16 => {
                 let mut block = [0; 256];
                 predict_intra(&lines.of_16, 4, mode, true, &mut block);
                 u64::from(block[place])
             }
-            IntraKernel::Predict32 => {
+            BlockSide::Of32 => {
                 let mut block = [0; 1024];
                 predict_intra(&lines.of_32, 5, mode, true, &mut block);
                 u64::from(block[place])

@@ -8,3 +8,4 @@ pub mod ReferenceListLemmas
 pub mod InterpolationLemmas
 pub mod SignedLemmas
 pub mod FactLemmas
+pub mod LaneLemmas

@@ -95,3 +95,27 @@ block_is log2 f block count right = rows_are (2 ^ log2) (2 ^ log2) f block count
 pub rows_same : (n rows : ℕ) (f g : ℕ → ℕ → ℕ) (block : List ℕ) →
     ((x y : ℕ) → x < n → y < rows → f x y ≡ g x y) → HasRows n rows f block → HasRows n rows g block
 rows_same n rows f g block same right = λ x y h k. right x y h k ∙ same x y h k
+
+-- ---- rows that are written part by part
+pub row_part : (a m k : ℕ) (f : ℕ → ℕ) (row part : List ℕ) → a ≤ length row → length part ≡ m →
+    IsRow a f row → IsRow m (λ i. f (a + i)) part → IsRow (a + m) f (put_mid a k row part)
+row_part a m k f row part inside long old new = λ x below. go x below (cases_lt x a)
+  where
+    front : length (take a row) ≡ a
+    front = length-take-le a row inside
+
+    go : (x : ℕ) → x < a + m → (x < a) ⊎ (a ≤ x) → get_or (put_mid a k row part) x 0 ≡ f x
+    go x below (inl h) =
+        get_or_append_left (take a row) (part ++ post_of a k row) 0 x (omega (arith, front)) ∙
+        get_or-take a row x 0 h ∙ old x h
+    go x below (inr h) =
+        get_or-append_right (take a row) (part ++ post_of a k row) a x 0 front h ∙
+        get_or_append_left part (post_of a k row) 0 (x - a) (omega (arith, long)) ∙
+        new (x - a) (omega arith) ∙ ap f (omega arith)
+
+pub in_part : (a m x : ℕ) (row : List ℕ) → x < m → get_or (take m (drop a row)) x 0 ≡ get_or row (a + x) 0
+in_part a m x row below = get_or-take m (drop a row) x 0 below ∙ get_or-drop a row x 0
+
+-- a part of the length that its bounds say
+pub length-part : (a m : ℕ) (row : List ℕ) → a + m ≤ length row → length (take m (drop a row)) ≡ m
+length-part a m row inside = length-take-le m (drop a row) (omega (arith, length-drop a row))

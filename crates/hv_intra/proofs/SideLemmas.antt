@@ -1,5 +1,6 @@
 -- The sides of blocks, and what numbers of samples are bounded by.
-use Rattle.std.proofs.Common.{◌≡◌, ℕ, zero, suc, ◌+◌, ◌*◌, ◌/◌, ◌%◌, ◌^◌, ◌<◌, ◌≤◌, refl, arith}
+use Rattle.std.proofs.Common.{◌≡◌, ℕ, zero, suc, ◌+◌, ◌*◌, ◌/◌, ◌%◌, ◌^◌, ◌<◌, ◌≤◌, refl, arith, inl, inr}
+use Rattle.std.specs.Prelude.{◌⊎◌}
 use Rattle.std.proofs.Math.Nat.{mul-le-mul}
 
 -- every side is 4, 8, 16 or 32
@@ -38,3 +39,9 @@ pub mean_below : (log2 sum : ℕ) → 2 ≤ log2 → log2 ≤ 5 → sum ≤ 511 
 mean_below log2 sum least most =
     by_side (λ log2. sum ≤ 511 * 2 ^ log2 → sum / 2 ^ (log2 + 1) < 256)
     (λ h. omega arith) (λ h. omega arith) (λ h. omega arith) (λ h. omega arith) log2 least most
+
+-- a row is one of 8, or some of 16
+pub side_in_lanes : (log2 : ℕ) → 3 ≤ log2 → log2 ≤ 5 → (2 ^ log2 ≡ 8) ⊎ (16 * (2 ^ log2 / 16) ≡ 2 ^ log2)
+side_in_lanes log2 least most =
+    by_side (λ log2. 3 ≤ log2 → (2 ^ log2 ≡ 8) ⊎ (16 * (2 ^ log2 / 16) ≡ 2 ^ log2))
+    (λ h. absurd (omega (arith, h))) (λ h. inl refl) (λ h. inr refl) (λ h. inr refl) log2 (omega (arith, least)) most least

@@ -1,4 +1,5 @@
 pub mod Lines
 pub mod Blocks
+pub mod Lanes
 pub mod References
 pub mod StraightModes

@@ -5,6 +5,7 @@ ghost use Rattle.hv_intra.specs.Blocks.{IsRow, HasRows};
 ghost use Rattle.hv_intra.specs.References.{first, part, blended, sample_between};
 ghost use Rattle.hv_sample_model.specs.IntraPrediction.{left, above, interpolated};
 
+use crate::lanes::{PREPARED, fill_row_in_lanes, prepare};
 use crate::neighbours::{Neighbours, Side};
 use crate::reference::{AngularMode, PLACES, fill_from_above, fill_from_left};
 
@@ -37,10 +38,9 @@ fn fill_row(reference: &[u8], first: usize, part: u8, row: &mut [u8])
     }
 }
 
-/// The block by rows, from the reference samples of a mode that predicts from above; of another
-/// mode, its columns.
+/// The rows of a block, sample by sample.
 #[inline(always)]
-fn fill_rows(reference: &[u8; PLACES], side: Side, mode: AngularMode, out: &mut [u8])
+fn fill_rows_singly(reference: &[u8; PLACES], side: Side, mode: AngularMode, out: &mut [u8])
     requires { 2 ^ side.log2 * 2 ^ side.log2 ≤ length out.old }
     ensures { HasRows (2 ^ side.log2) (2 ^ side.log2)
         (λ x y. sample_between reference.now (first side.log2 mode.number y)
@@ -50,6 +50,42 @@ fn fill_rows(reference: &[u8; PLACES], side: Side, mode: AngularMode, out: &mut 
     for y in 0..n {
         let row = &mut out[y * n..y * n + n];
         fill_row(reference, mode.first(side, y), mode.part(y), row);
+    }
+}
+
+/// The rows of a block, in lanes.
+#[inline(always)]
+fn fill_rows_in_lanes(reference: &[u8; PLACES], side: Side, mode: AngularMode, out: &mut [u8])
+    requires side { 3 ≤ side.log2 }
+    requires room { 2 ^ side.log2 * 2 ^ side.log2 ≤ length out.old }
+    ensures { HasRows (2 ^ side.log2) (2 ^ side.log2)
+        (λ x y. sample_between reference.now (first side.log2 mode.number y)
+        (part mode.number y) x) out.new }
+{
+    let mut bases = [0; PREPARED];
+    let mut steps = [0; PREPARED];
+    prepare(reference, side, &mut bases, &mut steps);
+    let n = side.count();
+    for y in 0..n {
+        let row = &mut out[y * n..y * n + n];
+        fill_row_in_lanes(&bases, &steps, mode.first(side, y), mode.part(y), row);
+    }
+}
+
+/// The block by rows, from the reference samples of a mode that predicts from above; of another
+/// mode, its columns. The lines of the diagonal and the straight modes meet no place between two
+/// samples, so that their rows are copies.
+#[inline(always)]
+fn fill_rows(reference: &[u8; PLACES], side: Side, mode: AngularMode, out: &mut [u8])
+    requires { 2 ^ side.log2 * 2 ^ side.log2 ≤ length out.old }
+    ensures { HasRows (2 ^ side.log2) (2 ^ side.log2)
+        (λ x y. sample_between reference.now (first side.log2 mode.number y)
+        (part mode.number y) x) out.new }
+{
+    if side.log2 == 2 || mode.number % 8 == 2 {
+        fill_rows_singly(reference, side, mode, out);
+    } else {
+        fill_rows_in_lanes(reference, side, mode, out);
     }
 }
 

@@ -5,6 +5,7 @@
 
 mod angular;
 mod dc;
+mod lanes;
 mod line;
 mod neighbours;
 mod planar;

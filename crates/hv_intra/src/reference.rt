@@ -9,9 +9,9 @@ ghost use Rattle.hv_sample_model.specs.IntraPrediction.{left, above};
 use crate::neighbours::{Neighbours, Side};
 use hv_tables::{intra_pred_angle, inv_angle};
 
-/// The places of a list of reference samples: those before the corner, the main side, and one that
-/// is read and has no weight.
-pub(crate) const PLACES: usize = 98;
+/// The places of a list of reference samples: those before the corner, the main side, and some that
+/// are read and have no weight.
+pub(crate) const PLACES: usize = 112;
 
 /// An angular mode, 2 to 34.
 #[derive(Clone, Copy)]

@@ -1,5 +1,5 @@
 //! The kernels of intra prediction that can be run.
-ghost use Rattle.std.specs.Prelude.{◌≡◌, ◌+◌, ◌<◌, ◌≤◌, length};
+ghost use Rattle.std.specs.Prelude.{◌≡◌, ◌+◌, ◌*◌, ◌^◌, ◌<◌, ◌≤◌, length};
 
 use hv_intra::{Line, predict_intra};
 
@@ -58,6 +58,22 @@ impl Lines {
             of_32: Line::of(&noise::<129>()),
         }
     }
+}
+
+/// Predicts a block of luma, and gives a sample of it. It isn't inlined, so that a call clears no
+/// other block than its own.
+#[inline(never)]
+fn predicted<const LOG2: u8, const SAMPLES: usize>(line: &Line, mode: u8, place: usize) -> u64
+    requires least { 2 ≤ LOG2 }
+    requires most { LOG2 ≤ 5 }
+    requires samples { SAMPLES ≡ 4 ^ LOG2 }
+    requires line { length line.now ≡ 4 * 2 ^ LOG2 + 1 }
+    requires mode { mode ≤ 34 }
+    requires place { place < SAMPLES }
+{
+    let mut block = [0; SAMPLES];
+    predict_intra(line, LOG2, mode, true, &mut block);
+    u64::from(block[place])
 }
 
 impl Modes {
@@ -178,21 +194,9 @@ impl IntraKernel {
     {
         let mode = self.modes.at(place + (round % 9520) as usize);
         match self.side {
-            BlockSide::Of8 => {
-                let mut block = [0; 64];
-                predict_intra(&lines.of_8, 3, mode, true, &mut block);
-                u64::from(block[place])
-            }
-            BlockSide::Of16 => {
-                let mut block = [0; 256];
-                predict_intra(&lines.of_16, 4, mode, true, &mut block);
-                u64::from(block[place])
-            }
-            BlockSide::Of32 => {
-                let mut block = [0; 1024];
-                predict_intra(&lines.of_32, 5, mode, true, &mut block);
-                u64::from(block[place])
-            }
+            BlockSide::Of8 => predicted::<3, 64>(&lines.of_8, mode, place),
+            BlockSide::Of16 => predicted::<4, 256>(&lines.of_16, mode, place),
+            BlockSide::Of32 => predicted::<5, 1024>(&lines.of_32, mode, place),
         }
     }
 }

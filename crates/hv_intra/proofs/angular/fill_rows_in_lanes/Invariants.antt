@@ -1,7 +1,7 @@
 use Rattle.std.proofs.Common.{◌^◌}
 use Rattle.hv_intra.specs.Blocks.{HasRows}
 use Rattle.hv_intra.specs.References.{first, part, sample_between}
-use Rattle.hv_intra.proofs.angular.fill_rows.Given as goal
+use Rattle.hv_intra.proofs.angular.fill_rows_in_lanes.Given as goal
 
 abbrev pub invariant-loop-y : goal.invariant-loop-y
 invariant-loop-y l =

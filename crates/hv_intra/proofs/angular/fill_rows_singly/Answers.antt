@@ -4,7 +4,7 @@ use Rattle.hv_intra.specs.References.{first, part, sample_between}
 use Rattle.hv_intra.proofs.FactLemmas.{row_facts}
 use Rattle.hv_intra.proofs.SideLemmas.{side_few}
 use Rattle.hv_intra.proofs.RowLemmas.{rows_written, length-row}
-use Rattle.hv_intra.proofs.angular.fill_rows.Goals as goal
+use Rattle.hv_intra.proofs.angular.fill_rows_singly.Goals as goal
 
 pub fill_row-requires-clause-inside : goal.fill_row-requires-clause-inside
 fill_row-requires-clause-inside c =

@@ -1,0 +1,142 @@
+//! Samples between reference samples (8.4.4.2.6), in lanes of 16 bits, which wrap.
+//!
+//! The sample that is `part` 32nds of the way from a to b is `(256 * a + 128 + 8 * part * (b - a)) /
+//! 256`. What doesn't depend on the part is made once a block, for each reference sample: its base
+//! `256 * a + 128`, and its step `b - a` to the next one.
+
+ghost use Rattle.std.specs.Prelude.{◌≡◌, ◌⊎◌, ℕ, ◌+◌, ◌*◌, ◌/◌, ◌^◌, ◌<◌, ◌≤◌, length, slice_index, map};
+ghost use Rattle.hv_intra.specs.Blocks.{IsRow};
+ghost use Rattle.hv_intra.specs.Lanes.{base, step, stepped, base_at, step_at, step_from, stepped_at};
+ghost use lib.Lanes.{zip2};
+
+use crate::neighbours::Side;
+use crate::reference::PLACES;
+use std::simd::prelude::*;
+
+/// The places that have bases and steps: all those of the largest block from which a sample is
+/// predicted, in eights.
+pub(crate) const PREPARED: usize = 104;
+
+/// The bases of reference samples.
+#[inline(always)]
+fn bases_of(samples: u8x8) -> u16x8
+    ensures { result ≡ map base samples }
+{
+    samples.cast::<u16>() * u16x8::splat(256) + u16x8::splat(128)
+}
+
+/// The steps from reference samples to the next ones.
+#[inline(always)]
+fn steps_of(samples: u8x8, next: u8x8) -> u16x8
+    ensures { result ≡ zip2 step samples next }
+{
+    next.cast::<u16>() - samples.cast::<u16>()
+}
+
+/// Eight samples that lie so many 32nds of a step behind a base.
+#[inline(always)]
+fn between_8(bases: u16x8, steps: u16x8, part: u8) -> u8x8
+    requires { part < 32 }
+    ensures { result ≡ zip2 (stepped part) bases steps }
+{
+    ((bases + u16x8::splat(8 * u16::from(part)) * steps) >> u16x8::splat(8)).cast::<u8>()
+}
+
+/// Sixteen of them.
+#[inline(always)]
+fn between_16(bases: u16x16, steps: u16x16, part: u8) -> u8x16
+    requires { part < 32 }
+    ensures { result ≡ zip2 (stepped part) bases steps }
+{
+    ((bases + u16x16::splat(8 * u16::from(part)) * steps) >> u16x16::splat(8)).cast::<u8>()
+}
+
+/// The bases and steps of eight reference samples.
+#[inline(always)]
+fn prepare_eight(samples: &[u8], next: &[u8], bases: &mut [u16], steps: &mut [u16])
+    requires samples { length samples.now ≡ 8 }
+    requires next { length next.now ≡ 8 }
+    requires bases { length bases.old ≡ 8 }
+    requires steps { length steps.old ≡ 8 }
+    ensures bases { IsRow 8 (base_at samples.now) bases.new }
+    ensures steps { IsRow 8 (step_at samples.now next.now) steps.new }
+{
+    let samples = u8x8::from_slice(samples);
+    bases_of(samples).copy_to_slice(bases);
+    steps_of(samples, u8x8::from_slice(next)).copy_to_slice(steps);
+}
+
+/// Writes eight samples between reference samples.
+#[inline(always)]
+fn fill_eight(bases: &[u16], steps: &[u16], part: u8, out: &mut [u8])
+    requires part { part < 32 }
+    requires bases { length bases.now ≡ 8 }
+    requires steps { length steps.now ≡ 8 }
+    requires room { length out.old ≡ 8 }
+    ensures { IsRow 8 (stepped_at bases.now steps.now part) out.new }
+{
+    between_8(u16x8::from_slice(bases), u16x8::from_slice(steps), part).copy_to_slice(out);
+}
+
+/// Writes sixteen of them.
+#[inline(always)]
+fn fill_sixteen(bases: &[u16], steps: &[u16], part: u8, out: &mut [u8])
+    requires part { part < 32 }
+    requires bases { length bases.now ≡ 16 }
+    requires steps { length steps.now ≡ 16 }
+    requires room { length out.old ≡ 16 }
+    ensures { IsRow 16 (stepped_at bases.now steps.now part) out.new }
+{
+    between_16(u16x16::from_slice(bases), u16x16::from_slice(steps), part).copy_to_slice(out);
+}
+
+/// The bases and steps of all reference samples of a block.
+#[inline(always)]
+pub(crate) fn prepare(
+    reference: &[u8; PLACES],
+    side: Side,
+    bases: &mut [u16; PREPARED],
+    steps: &mut [u16; PREPARED],
+)
+    ensures bases { IsRow (3 * 2 ^ side.log2 + 1) (base_at reference.now) bases.new }
+    ensures steps { IsRow (3 * 2 ^ side.log2 + 1) (step_from reference.now) steps.new }
+{
+    for g in 0..3 * side.count() / 8 + 1 {
+        prepare_eight(
+            &reference[8 * g..8 * g + 8],
+            &reference[8 * g + 1..8 * g + 9],
+            &mut bases[8 * g..8 * g + 8],
+            &mut steps[8 * g..8 * g + 8],
+        );
+    }
+}
+
+/// A row of 8, 16 or 32 samples, from its first base and step on.
+#[inline(always)]
+pub(crate) fn fill_row_in_lanes(
+    bases: &[u16; PREPARED],
+    steps: &[u16; PREPARED],
+    first: usize,
+    part: u8,
+    row: &mut [u8],
+)
+    requires part { part < 32 }
+    requires inside { first + length row.old ≤ 104 }
+    requires lanes { (length row.old ≡ 8) ⊎ (16 * (length row.old / 16) ≡ length row.old) }
+    ensures { IsRow (length row.old) (λ x. stepped_at bases.now steps.now part (first + x)) row.new }
+{
+    let n = row.len();
+    if n == 8 {
+        fill_eight(&bases[first..first + 8], &steps[first..first + 8], part, row);
+    } else {
+        for g in 0..n / 16 {
+            let from = first + 16 * g;
+            fill_sixteen(
+                &bases[from..from + 16],
+                &steps[from..from + 16],
+                part,
+                &mut row[16 * g..16 * g + 16],
+            );
+        }
+    }
+}

@@ -4,6 +4,7 @@ use Rattle.std.specs.Prelude.{◌⊎◌, ℤ, pos, ◌+ℤ◌, ◌-ℤ◌}
 use Rattle.std.proofs.lemmas.Int.{ints}
 use Rattle.hv_tables.specs.Angles.{intraPredAngle}
 use Rattle.hv_sample_model.specs.IntraPrediction.{ref, interpolated}
+use Rattle.hv_intra.specs.Blocks.{HasRows}
 use Rattle.hv_intra.specs.References.{shift, part, first, blended, sample_between, HoldsReference}
 use Rattle.hv_intra.proofs.FactLemmas.{row_facts, RowFacts}
 
@@ -46,3 +47,11 @@ straight main other mode along across e =
     let none : (across + 1) * 0 ≡ 0 = omega arith in
     let same : along + 1 + 0 ≡ along + 1 = omega arith in
     rw (e, none, same) refl
+
+-- ---- blocks that are made by columns
+pub columns_between : (log2 mode : ℕ) (main other : ℕ → ℕ) (reference block : List ℕ) → 2 ≤ log2 →
+    log2 ≤ 5 → 2 ≤ mode → mode ≤ 34 → HoldsReference log2 mode main other reference →
+    HasRows (2 ^ log2) (2 ^ log2) (λ x y. sample_between reference (first log2 mode x) (part mode x) y) block →
+    HasRows (2 ^ log2) (2 ^ log2) (λ x y. interpolated main other mode y x) block
+columns_between log2 mode main other reference block least most from to held rows = λ x y column row.
+    rows x y column row ∙ between_is log2 mode y x main other reference least most from to held row column

@@ -8,4 +8,5 @@ pub mod ReferenceListLemmas
 pub mod InterpolationLemmas
 pub mod SignedLemmas
 pub mod FactLemmas
+pub mod TurnLemmas
 pub mod LaneLemmas

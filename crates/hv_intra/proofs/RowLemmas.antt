@@ -3,7 +3,7 @@ use Rattle.std.proofs.Common.{◌≡◌, ℕ, zero, suc, ◌+◌, ◌-◌, ◌*�
 use Rattle.std.specs.Prelude.{◌⊎◌}
 use Rattle.std.specs.List.{flat_map}
 use Rattle.std.proofs.lemmas.Bool.{cases_lt}
-use Rattle.std.proofs.lemmas.List.{get_or_append_left, get_or-append_right, get_or-take, get_or-drop, length-take-le, length-take, length-drop, take-append-drop}
+use Rattle.std.proofs.lemmas.List.{get_or_append_left, get_or-append_right, get_or-take, get_or-drop, length-take-le, length-take, length-drop, length-append, take-append-drop}
 use borrow.Rule.Slice.PartMut.{put_mid, post_of}
 use Rattle.hv_lemmas.specs.Lists.{tabulate}
 use Rattle.hv_sample_model.specs.Blocks.{square}
@@ -119,3 +119,18 @@ in_part a m x row below = get_or-take m (drop a row) x 0 below ∙ get_or-drop a
 -- a part of the length that its bounds say
 pub length-part : (a m : ℕ) (row : List ℕ) → a + m ≤ length row → length (take m (drop a row)) ≡ m
 length-part a m row inside = length-take-le m (drop a row) (omega (arith, length-drop a row))
+
+put_mid_long : (a k : ℕ) (row part : List ℕ) → a ≤ length row → a + length part ≤ length (put_mid a k row part)
+put_mid_long a k row part inside =
+    let front : length (take a row) ≡ a = length-take-le a row inside in
+    omega (arith, front, length-append (take a row) (part ++ post_of a k row), length-append part (post_of a k row))
+
+-- two parts, one behind the other
+pub row_parts : (a m k l b : ℕ) (f : ℕ → ℕ) (row part more : List ℕ) → b ≡ a + m → a ≤ length row →
+    length part ≡ m → length more ≡ m → IsRow a f row → IsRow m (λ i. f (a + i)) part →
+    IsRow m (λ i. f (a + m + i)) more → IsRow (a + m + m) f (put_mid b l (put_mid a k row part) more)
+row_parts a m k l b f row part more e inside long longer old new newer =
+    subst (λ (c : ℕ). IsRow (a + m + m) f (put_mid c l (put_mid a k row part) more)) (sym e)
+    (row_part (a + m) m l f (put_mid a k row part) more
+    (omega (arith, put_mid_long a k row part inside, long)) longer
+    (row_part a m k f row part inside long old new) newer)

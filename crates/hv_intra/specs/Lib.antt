@@ -3,3 +3,4 @@ pub mod Blocks
 pub mod Lanes
 pub mod References
 pub mod StraightModes
+pub mod Turns

@@ -8,9 +8,7 @@ ghost use Rattle.hv_sample_model.specs.IntraPrediction.{left, above, interpolate
 use crate::lanes::{PREPARED, fill_row_in_lanes, prepare};
 use crate::neighbours::{Neighbours, Side};
 use crate::reference::{AngularMode, PLACES, fill_from_above, fill_from_left};
-
-/// The samples of the largest block.
-const LARGEST: usize = 1024;
+use crate::turn::{turn_4, turn_8, turn_16, turn_32};
 
 /// The sample between two neighbouring reference samples (8.4.4.2.6).
 #[inline(always)]
@@ -53,15 +51,21 @@ fn fill_rows_singly(reference: &[u8; PLACES], side: Side, mode: AngularMode, out
     }
 }
 
-/// The rows of a block, in lanes.
-#[inline(always)]
-fn fill_rows_in_lanes(reference: &[u8; PLACES], side: Side, mode: AngularMode, out: &mut [u8])
-    requires side { 3 ≤ side.log2 }
-    requires room { 2 ^ side.log2 * 2 ^ side.log2 ≤ length out.old }
-    ensures { HasRows (2 ^ side.log2) (2 ^ side.log2)
-        (λ x y. sample_between reference.now (first side.log2 mode.number y)
+/// The rows of a block, in lanes. It isn't inlined: what would grow too large with it stays whole.
+#[inline(never)]
+fn fill_rows_in_lanes<const LOG2: u8>(
+    reference: &[u8; PLACES],
+    mode: AngularMode,
+    out: &mut [u8],
+)
+    requires least { 3 ≤ LOG2 }
+    requires most { LOG2 ≤ 5 }
+    requires room { 2 ^ LOG2 * 2 ^ LOG2 ≤ length out.old }
+    ensures { HasRows (2 ^ LOG2) (2 ^ LOG2)
+        (λ x y. sample_between reference.now (first LOG2 mode.number y)
         (part mode.number y) x) out.new }
 {
+    let side = Side { log2: LOG2 };
     let mut bases = [0; PREPARED];
     let mut steps = [0; PREPARED];
     prepare(reference, side, &mut bases, &mut steps);
@@ -85,7 +89,11 @@ fn fill_rows(reference: &[u8; PLACES], side: Side, mode: AngularMode, out: &mut 
     if side.log2 == 2 || mode.number % 8 == 2 {
         fill_rows_singly(reference, side, mode, out);
     } else {
-        fill_rows_in_lanes(reference, side, mode, out);
+        match side.log2 {
+            3 => fill_rows_in_lanes::<3>(reference, mode, out),
+            4 => fill_rows_in_lanes::<4>(reference, mode, out),
+            _ => fill_rows_in_lanes::<5>(reference, mode, out),
+        }
     }
 }
 
@@ -102,36 +110,44 @@ pub(crate) fn predict_from_above(neighbours: Neighbours<'_>, mode: AngularMode, 
     fill_rows(&reference, neighbours.side, mode, out);
 }
 
-/// A row of a block from its columns.
-#[inline(always)]
-fn turn_row(columns: &[u8], n: usize, y: usize, row: &mut [u8])
-    requires side { n ≤ 32 }
-    requires row { y < n }
-    requires columns { n * n ≤ length columns.now }
-    requires room { length row.old ≡ n }
-    ensures { IsRow n (λ x. slice_index columns.now (x * n + y)) row.new }
-{
-    for x in 0..n {
-        row[x] = columns[x * n + y];
-    }
-}
-
 /// The rows of a block from its columns.
 #[inline(always)]
-fn turn(columns: &[u8], n: usize, out: &mut [u8])
-    requires side { n ≤ 32 }
-    requires columns { n * n ≤ length columns.now }
-    requires room { length out.old ≡ n * n }
-    ensures { HasRows n n (λ x y. slice_index columns.now (x * n + y)) out.new }
+fn turn(columns: &[u8], side: Side, out: &mut [u8])
+    requires columns { length columns.now ≡ 2 ^ side.log2 * 2 ^ side.log2 }
+    requires room { length out.old ≡ 2 ^ side.log2 * 2 ^ side.log2 }
+    ensures { HasRows (2 ^ side.log2) (2 ^ side.log2)
+        (λ x y. slice_index columns.now (x * 2 ^ side.log2 + y)) out.new }
 {
-    for y in 0..n {
-        turn_row(columns, n, y, &mut out[y * n..y * n + n]);
+    match side.log2 {
+        2 => turn_4(columns, out),
+        3 => turn_8(columns, out),
+        4 => turn_16(columns, out),
+        _ => turn_32(columns, out),
     }
 }
 
-/// A mode that predicts from the left: its columns are made as the rows of the others are.
+/// The block by rows, from the reference samples of a mode that predicts from the left: its columns
+/// are made as the rows of the other modes are.
 #[inline(always)]
-#[tactic(auto, using(crate::proofs::SideLemmas::square_few))]
+fn fill_columns<const AREA: usize>(
+    reference: &[u8; PLACES],
+    side: Side,
+    mode: AngularMode,
+    out: &mut [u8],
+)
+    requires area { AREA ≡ 2 ^ side.log2 * 2 ^ side.log2 }
+    requires room { length out.old ≡ AREA }
+    ensures { HasRows (2 ^ side.log2) (2 ^ side.log2)
+        (λ x y. sample_between reference.now (first side.log2 mode.number x)
+        (part mode.number x) y) out.new }
+{
+    let mut columns = [0; AREA];
+    fill_rows(reference, side, mode, &mut columns);
+    turn(&columns, side, out);
+}
+
+/// A mode that predicts from the left.
+#[inline(always)]
 pub(crate) fn predict_from_left(neighbours: Neighbours<'_>, mode: AngularMode, out: &mut [u8])
     requires { length out.old ≡ 2 ^ neighbours.side.log2 * 2 ^ neighbours.side.log2 }
     ensures { HasRows (2 ^ neighbours.entry.side.log2) (2 ^ neighbours.entry.side.log2)
@@ -140,7 +156,11 @@ pub(crate) fn predict_from_left(neighbours: Neighbours<'_>, mode: AngularMode, o
 {
     let mut reference = [0; PLACES];
     fill_from_left(neighbours, mode, &mut reference);
-    let mut columns = [0; LARGEST];
-    fill_rows(&reference, neighbours.side, mode, &mut columns);
-    turn(&columns, neighbours.side.count(), out);
+    let side = neighbours.side;
+    match side.log2 {
+        2 => fill_columns::<16>(&reference, side, mode, out),
+        3 => fill_columns::<64>(&reference, side, mode, out),
+        4 => fill_columns::<256>(&reference, side, mode, out),
+        _ => fill_columns::<1024>(&reference, side, mode, out),
+    }
 }

@@ -13,6 +13,7 @@ mod predict;
 mod reference;
 mod smoothing;
 mod straight;
+mod turn;
 #[cfg(test)]
 mod tests;
 

@@ -67,6 +67,7 @@ fn predicted<const LOG2: u8, const SAMPLES: usize>(line: &Line, mode: u8, place:
     requires least { 2 ≤ LOG2 }
     requires most { LOG2 ≤ 5 }
     requires samples { SAMPLES ≡ 4 ^ LOG2 }
+    requires few { SAMPLES ≤ 1024 }
     requires line { length line.now ≡ 4 * 2 ^ LOG2 + 1 }
     requires mode { mode ≤ 34 }
     requires place { place < SAMPLES }

@@ -9,23 +9,21 @@ use Rattle.hv_intra.proofs.LaneLemmas.{stepped_between}
 use Rattle.hv_intra.proofs.angular.fill_rows_in_lanes.Goals as goal
 
 pub fill_row_in_lanes-requires-clause-inside : goal.fill_row_in_lanes-requires-clause-inside
-fill_row_in_lanes-requires-clause-inside c =
-    let side = c.args.side in
-    let few = side_few side.log2 side.least side.most in
-    let below : c.loop-y.y < 2 ^ side.log2 = omega (arith, c.loop-y-test.true, c.count-n.ensures.value) in
-    let f = row_facts side.log2 c.args.mode.number c.loop-y.y side.least side.most c.args.mode.first c.args.mode.last below in
-    let count = length-row (2 ^ side.log2) c.count-n.result c.loop-y.y c.loop-y.out c.count-n.ensures.value c.loop-y-test.true (omega arith) in
+fill_row_in_lanes-requires-clause-inside g c =
+    let few = side_few g.row.LOG2 (omega (arith, c.requires.least)) c.requires.most in
+    let below : c.loop-y.y < 2 ^ g.row.LOG2 = omega (arith, c.loop-y-test.true, c.count-n.ensures.value) in
+    let f = row_facts g.row.LOG2 c.args.mode.number c.loop-y.y (omega (arith, c.requires.least)) c.requires.most c.args.mode.first c.args.mode.last below in
+    let count = length-row (2 ^ g.row.LOG2) c.count-n.result c.loop-y.y c.loop-y.out c.count-n.ensures.value c.loop-y-test.true (omega arith) in
     omega (arith, few, f.most, count, c.first.ensures)
 
 pub fill_row_in_lanes-requires-clause-lanes : goal.fill_row_in_lanes-requires-clause-lanes
-fill_row_in_lanes-requires-clause-lanes c =
-    let side = c.args.side in
-    let count = length-row (2 ^ side.log2) c.count-n.result c.loop-y.y c.loop-y.out c.count-n.ensures.value c.loop-y-test.true (omega arith) in
-    rw count (side_in_lanes side.log2 c.requires.side side.most)
+fill_row_in_lanes-requires-clause-lanes g c =
+    let count = length-row (2 ^ g.row.LOG2) c.count-n.result c.loop-y.y c.loop-y.out c.count-n.ensures.value c.loop-y-test.true (omega arith) in
+    rw count (side_in_lanes g.row.LOG2 c.requires.least c.requires.most)
 
 pub loop-y-preserved : goal.loop-y-preserved
-loop-y-preserved c =
-    let log2 : ℕ = c.args.side.log2 in
+loop-y-preserved g c =
+    let log2 : ℕ = g.row.LOG2 in
     let n : ℕ = 2 ^ log2 in
     let mode : ℕ = c.args.mode.number in
     let y : ℕ = c.loop-y.y in
@@ -33,7 +31,7 @@ loop-y-preserved c =
     let bases : List ℕ = c.prepare.new.bases in
     let steps : List ℕ = c.prepare.new.steps in
     let below : y < n = omega (arith, c.loop-y-test.true, c.count-n.ensures.value) in
-    let f = row_facts log2 mode y c.args.side.least c.args.side.most c.args.mode.first c.args.mode.last below in
+    let f = row_facts log2 mode y (omega (arith, c.requires.least)) c.requires.most c.args.mode.first c.args.mode.last below in
     let count : length (take (y * c.count-n.result + c.count-n.result - y * c.count-n.result)
     (drop (y * c.count-n.result) c.loop-y.out)) ≡ n =
     length-row n c.count-n.result y c.loop-y.out c.count-n.ensures.value c.loop-y-test.true (omega arith) in

@@ -4,6 +4,6 @@ use Rattle.hv_intra.specs.References.{first, part, sample_between}
 use Rattle.hv_intra.proofs.angular.fill_rows_in_lanes.Given as goal
 
 abbrev pub invariant-loop-y : goal.invariant-loop-y
-invariant-loop-y l =
-    HasRows (2 ^ l.side.log2) l.y
-    (λ x y. sample_between l.reference (first l.side.log2 l.mode.number y) (part l.mode.number y) x) l.out
+invariant-loop-y g l =
+    HasRows (2 ^ g.row.LOG2) l.y
+    (λ x y. sample_between l.reference (first g.row.LOG2 l.mode.number y) (part l.mode.number y) x) l.out

@@ -1,0 +1,5 @@
+use Rattle.hv_intra.proofs.TurnLemmas.{first_woven}
+use Rattle.hv_intra.proofs.turn.weave_first.Goals as goal
+
+pub returns : goal.returns
+returns c = first_woven c.args.out.now c.args.first.now c.args.second.now c.requires.first c.requires.second c.requires.room

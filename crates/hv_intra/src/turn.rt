@@ -1,0 +1,168 @@
+//! Columns of a block as rows.
+//!
+//! A block of 8 or 16 columns is turned by steps that each move the lowest bit of a sample's place to
+//! the top: as many of them as the side has bits exchange column and row. A step takes two runs of
+//! 16 samples in turn, one from each half of the block.
+
+ghost use Rattle.std.specs.Prelude.{◌≡◌, ℕ, ◌+◌, ◌*◌, ◌/◌, ◌%◌, ◌<◌, ◌≤◌, ◌++◌, length, slice_index};
+ghost use Rattle.hv_intra.specs.Blocks.{IsRow, HasRows};
+ghost use Rattle.hv_intra.specs.Turns.{lowest_to_top, woven, of_tile, of_tiles};
+
+use std::simd::prelude::*;
+
+/// The samples of a block of 4x4, turned.
+#[inline(always)]
+pub(crate) fn turn_4(columns: &[u8], out: &mut [u8])
+    requires columns { length columns.now ≡ 16 }
+    requires room { length out.old ≡ 16 }
+    ensures { HasRows 4 4 (λ x y. slice_index columns.now (x * 4 + y)) out.new }
+{
+    u8x16::from_slice(columns)
+        .swizzle([0, 4, 8, 12, 1, 5, 9, 13, 2, 6, 10, 14, 3, 7, 11, 15])
+        .copy_to_slice(out);
+}
+
+/// The first halves of two runs, in turn.
+#[inline(always)]
+fn weave_first(first: &[u8], second: &[u8], out: &mut [u8])
+    requires first { length first.now ≡ 16 }
+    requires second { length second.now ≡ 16 }
+    requires room { length out.old ≡ 16 }
+    ensures { IsRow 16 (woven first.now second.now 0) out.new }
+{
+    u8x16::from_slice(first)
+        .shuffle(
+            u8x16::from_slice(second),
+            [0, 16, 1, 17, 2, 18, 3, 19, 4, 20, 5, 21, 6, 22, 7, 23],
+        )
+        .copy_to_slice(out);
+}
+
+/// The last halves of two runs, in turn.
+#[inline(always)]
+fn weave_last(first: &[u8], second: &[u8], out: &mut [u8])
+    requires first { length first.now ≡ 16 }
+    requires second { length second.now ≡ 16 }
+    requires room { length out.old ≡ 16 }
+    ensures { IsRow 16 (woven first.now second.now 8) out.new }
+{
+    u8x16::from_slice(first)
+        .shuffle(
+            u8x16::from_slice(second),
+            [8, 24, 9, 25, 10, 26, 11, 27, 12, 28, 13, 29, 14, 30, 15, 31],
+        )
+        .copy_to_slice(out);
+}
+
+/// Moves the lowest bit of each sample's place to the top.
+#[inline(always)]
+fn step(from: &[u8], to: &mut [u8])
+    requires runs { 32 * (length from.now / 32) ≡ length from.now }
+    requires most { length from.now ≤ 256 }
+    requires alike { length to.old ≡ length from.now }
+    ensures { IsRow (length from.now)
+        (λ j. slice_index from.now (lowest_to_top (length from.now) j)) to.new }
+{
+    let half = from.len() / 2;
+    for i in 0..half / 16 {
+        let first = &from[16 * i..16 * i + 16];
+        let second = &from[half + 16 * i..half + 16 * i + 16];
+        weave_first(first, second, &mut to[32 * i..32 * i + 16]);
+        weave_last(first, second, &mut to[32 * i + 16..32 * i + 32]);
+    }
+}
+
+/// A block of 8x8, turned.
+#[inline(always)]
+pub(crate) fn turn_8(columns: &[u8], out: &mut [u8])
+    requires columns { length columns.now ≡ 64 }
+    requires room { length out.old ≡ 64 }
+    ensures { HasRows 8 8 (λ x y. slice_index columns.now (x * 8 + y)) out.new }
+{
+    let mut once = [0; 64];
+    let mut twice = [0; 64];
+    step(columns, &mut once);
+    step(&once, &mut twice);
+    step(&twice, out);
+}
+
+/// A block of 16x16, turned.
+#[inline(always)]
+pub(crate) fn turn_16(columns: &[u8], out: &mut [u8])
+    requires columns { length columns.now ≡ 256 }
+    requires room { length out.old ≡ 256 }
+    ensures { HasRows 16 16 (λ x y. slice_index columns.now (x * 16 + y)) out.new }
+{
+    let mut once = [0; 256];
+    let mut twice = [0; 256];
+    let mut thrice = [0; 256];
+    step(columns, &mut once);
+    step(&once, &mut twice);
+    step(&twice, &mut thrice);
+    step(&thrice, out);
+}
+
+/// The sixteen columns of a block of 32x32 from one on, from a row on.
+#[inline(always)]
+fn take_tile(columns: &[u8], column: usize, row: usize, tile: &mut [u8; 256])
+    requires columns { length columns.now ≡ 1024 }
+    requires column { column ≤ 16 }
+    requires row { row ≤ 16 }
+    ensures { IsRow 256 (of_tile columns.now column row) tile.new }
+{
+    for i in 0..16 {
+        let at = 32 * (column + i) + row;
+        tile[16 * i..16 * i + 16].copy_from_slice(&columns[at..at + 16]);
+    }
+}
+
+/// The rows of two tiles, one beside the other.
+#[inline(always)]
+fn join_tiles(first: &[u8; 256], second: &[u8; 256], out: &mut [u8])
+    requires { length out.old ≡ 512 }
+    ensures { IsRow 512 (of_tiles first.now second.now) out.new }
+{
+    for i in 0..16 {
+        out[32 * i..32 * i + 16].copy_from_slice(&first[16 * i..16 * i + 16]);
+        out[32 * i + 16..32 * i + 32].copy_from_slice(&second[16 * i..16 * i + 16]);
+    }
+}
+
+/// A tile of a block of 32x32, turned.
+#[inline(always)]
+fn turn_tile(columns: &[u8], column: usize, row: usize, out: &mut [u8; 256])
+    requires columns { length columns.now ≡ 1024 }
+    requires column { column ≤ 16 }
+    requires row { row ≤ 16 }
+    ensures { HasRows 16 16 (λ x y. slice_index columns.now (32 * (column + x) + row + y)) out.new }
+{
+    let mut tile = [0; 256];
+    take_tile(columns, column, row, &mut tile);
+    turn_16(&tile, out);
+}
+
+/// Sixteen rows of a block of 32x32 from its columns.
+#[inline(always)]
+fn turn_rows(columns: &[u8], row: usize, out: &mut [u8])
+    requires columns { length columns.now ≡ 1024 }
+    requires row { row ≤ 16 }
+    requires room { length out.old ≡ 512 }
+    ensures { HasRows 32 16 (λ x y. slice_index columns.now (x * 32 + (row + y))) out.new }
+{
+    let mut first = [0; 256];
+    let mut second = [0; 256];
+    turn_tile(columns, 0, row, &mut first);
+    turn_tile(columns, 16, row, &mut second);
+    join_tiles(&first, &second, out);
+}
+
+/// A block of 32x32, turned.
+#[inline(always)]
+pub(crate) fn turn_32(columns: &[u8], out: &mut [u8])
+    requires columns { length columns.now ≡ 1024 }
+    requires room { length out.old ≡ 1024 }
+    ensures { HasRows 32 32 (λ x y. slice_index columns.now (x * 32 + y)) out.new }
+{
+    turn_rows(columns, 0, &mut out[0..512]);
+    turn_rows(columns, 16, &mut out[512..1024]);
+}

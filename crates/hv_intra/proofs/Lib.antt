@@ -8,5 +8,6 @@ pub mod ReferenceListLemmas
 pub mod InterpolationLemmas
 pub mod SignedLemmas
 pub mod FactLemmas
+pub mod SmoothingLaneLemmas
 pub mod TurnLemmas
 pub mod LaneLemmas

@@ -134,3 +134,24 @@ row_parts a m k l b f row part more e inside long longer old new newer =
     (row_part (a + m) m l f (put_mid a k row part) more
     (omega (arith, put_mid_long a k row part inside, long)) longer
     (row_part a m k f row part inside long old new) newer)
+
+-- what a part leaves
+pub length-parted : (a k : ℕ) (row part : List ℕ) → a + k ≤ length row → length part ≡ k →
+    length (put_mid a k row part) ≡ length row
+length-parted a k row part inside long =
+    let front : length (take a row) ≡ a = length-take-le a row (omega arith) in
+    omega (arith, front, long, inside, length-append (take a row) (part ++ post_of a k row), length-append part (post_of a k row), length-drop k (drop a row), length-drop a row)
+
+pub before_part : (a k x : ℕ) (row part : List ℕ) → a ≤ length row → x < a →
+    get_or (put_mid a k row part) x 0 ≡ get_or row x 0
+before_part a k x row part inside below =
+    let front : length (take a row) ≡ a = length-take-le a row inside in
+    get_or_append_left (take a row) (part ++ post_of a k row) 0 x (omega (arith, front)) ∙ get_or-take a row x 0 below
+
+pub inside_part : (a k x : ℕ) (row part : List ℕ) → a ≤ length row → x < length part →
+    get_or (put_mid a k row part) (a + x) 0 ≡ get_or part x 0
+inside_part a k x row part inside below =
+    let front : length (take a row) ≡ a = length-take-le a row inside in
+    get_or-append_right (take a row) (part ++ post_of a k row) a (a + x) 0 front (omega arith) ∙
+    ap (λ (i : ℕ). get_or (part ++ post_of a k row) i 0) (omega arith) ∙
+    get_or_append_left part (post_of a k row) 0 x below

@@ -4,6 +4,7 @@ use Rattle.std.specs.Prelude.{◌⊎◌}
 use Rattle.std.proofs.lemmas.Bool.{cases_order}
 use Rattle.std.proofs.lemmas.List.{ext_get_or}
 use Rattle.hv_sample_model.specs.IntraPrediction.{smoothed, smoothed_behind}
+use Rattle.hv_intra.specs.Lines.{weighted_at}
 
 length-smoothed_behind : (before : ℕ) (line : List ℕ) → length (smoothed_behind before line) ≡ length line
 length-smoothed_behind before [] = refl
@@ -31,10 +32,6 @@ last_behind before (p ∷ []) zero end = refl
 last_behind before (p ∷ []) (suc i) end = absurd (omega arith)
 last_behind before (p ∷ next ∷ line) zero end = absurd (omega arith)
 last_behind before (p ∷ next ∷ line) (suc i) end = last_behind p (next ∷ line) i (omega arith)
-
--- weighted with those beside it
-abbrev pub weighted_at : List ℕ → ℕ → ℕ
-weighted_at line i = (get_or line (i - 1) 0 + 2 * get_or line i 0 + get_or line (i + 1) 0 + 2) / 4
 
 smoothed_inside : (line : List ℕ) (i : ℕ) → 1 ≤ i → i + 1 < length line →
     get_or (smoothed line) i 0 ≡ weighted_at line i

@@ -1,10 +1,9 @@
-use Rattle.std.proofs.Common.{arith, length-set, ◌∙◌}
-use Rattle.hv_intra.proofs.SmoothedLineLemmas.{smoothed_from_places}
+use Rattle.std.proofs.Common.{◌-◌, length, arith}
+use Rattle.hv_intra.proofs.SmoothingLaneLemmas.{smoothed_parts}
 use Rattle.hv_intra.proofs.smoothing.smooth.Goals as goal
 
 pub returns : goal.returns
 returns c =
-    let l = c.loop-i.invariant in
-    let count = c.loop-i.auto.out ∙ length-set _ _ _ ∙ length-set _ _ _ ∙ c.requires.room in
-    smoothed_from_places c.args.line.now c.loop-i.out c.requires.some count l.first
-    (λ k least most. l.inner k least (omega arith)) l.last
+    let last = length c.args.out.now - 1 in
+    smoothed_parts c.loop-k.k last (last - (last - 16)) c.args.line.now c.loop-k.out c.smooth_sixteen-2.new.out c.requires.some c.requires.sixteens
+    (omega arith) (omega arith) (omega arith) (omega arith) (omega arith) c.loop-k.invariant c.smooth_sixteen-2.ensures

@@ -57,9 +57,9 @@ steps_are (x ∷ xs) (y ∷ ys) f g =
 -- ---- a part of the way
 abbrev pub between : ℕ → ℕ → List ℕ → List ℕ → List ℕ
 between n p bs ss =
-    zip2 down (zip2 plus bs (zip2 times (replicate n (8 * p)) ss)) (replicate n 8)
+    zip2 down (zip2 plus bs (zip2 times (replicate n p) ss)) (replicate n 8)
 
-lane_is : (p b s : ℕ) → narrow (down (plus b (times (8 * p) s)) 8) ≡ stepped p b s
+lane_is : (p b s : ℕ) → narrow (down (plus b (times p s)) 8) ≡ stepped p b s
 lane_is p b s = omega arith
 
 pub between_is : (n p : ℕ) (bs ss : List ℕ) → length bs ≡ n → length ss ≡ n →
@@ -72,7 +72,7 @@ between_is (suc n) p (b ∷ bs) [] l m = absurd (omega arith)
 between_is (suc n) p (b ∷ bs) (s ∷ ss) l m =
     ap₂ (λ (a : ℕ) (b : List ℕ). a ∷ b) (lane_is p b s) (between_is n p bs ss (omega arith) (omega arith))
 
-lane_fits : (p b s : ℕ) → Asks1 (cast unsigned unsigned w8) (s_int w16) (down (plus b (times (8 * p) s)) 8)
+lane_fits : (p b s : ℕ) → Asks1 (cast unsigned unsigned w8) (s_int w16) (down (plus b (times p s)) 8)
 lane_fits p b s = omega arith
 
 pub between_fits : (n p : ℕ) (bs ss : List ℕ) →
@@ -131,10 +131,10 @@ falling p b d h k some =
     let eight : 8 * p * (65536 - d) ≡ 8 * (p * (65536 - d)) = grind arith in
     rw eight (omega (arith, few, parts, join))
 
-pub stepped_is : (p a b : ℕ) → p < 32 → a < 256 → b < 256 → stepped p (base a) (step a b) ≡ blended p a b
+pub stepped_is : (p a b : ℕ) → p < 32 → a < 256 → b < 256 → stepped (8 * p) (base a) (step a b) ≡ blended p a b
 stepped_is p a b h k l = go (cases_lt b a)
   where
-    go : (b < a) ⊎ (a ≤ b) → stepped p (base a) (step a b) ≡ blended p a b
+    go : (b < a) ⊎ (a ≤ b) → stepped (8 * p) (base a) (step a b) ≡ blended p a b
     go (inr up) =
         let d : step a b ≡ b - a = omega (arith, up) in
         let e : a + (b - a) ≡ b = omega (arith, up) in
@@ -151,13 +151,17 @@ stepped_is p a b h k l = go (cases_lt b a)
 pub stepped_between : (p first x : ℕ) (reference bases steps : List ℕ) → p < 32 → ((k : ℕ) → get_or reference k 0 < 256) →
     get_or bases (first + x) 0 ≡ base_at reference (first + x) →
     get_or steps (first + x) 0 ≡ step (get_or reference (first + x) 0) (get_or reference (first + x + 1) 0) →
-    stepped_at bases steps p (first + x) ≡ sample_between reference first p x
+    stepped_at bases steps (8 * p) (first + x) ≡ sample_between reference first p x
 stepped_between p first x reference bases steps h f b s =
     let here : ℕ = get_or reference (first + x) 0 in
     let next : ℕ = get_or reference (first + x + 1) 0 in
-    ap₂ (stepped p) b s ∙ stepped_is p here next h (f (first + x)) (f (first + x + 1)) ∙ chosen p here next
+    ap₂ (stepped (8 * p)) b s ∙ stepped_is p here next h (f (first + x)) (f (first + x + 1)) ∙ chosen p here next
   where
     chosen : (p a b : ℕ) → blended p a b ≡ cond (eqb p 0) a (blended p a b)
     chosen zero a b = omega arith
     chosen (suc p) a b =
         let off : eqb (suc p) 0 ≡ false = ne_eqb (suc p) 0 (λ same. absurd (omega arith)) in rw off refl
+
+pub copied : (n : ℕ) (from to : List ℕ) → length from ≡ n → length to ≡ n → put_chunk 0 to (take n from) ≡ from
+copied n from to l m =
+    ap (put_chunk 0 to) (take_all n from (omega (arith, l))) ∙ put_chunk_whole to from (m ∙ sym l)

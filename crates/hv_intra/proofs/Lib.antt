@@ -8,6 +8,7 @@ pub mod ReferenceListLemmas
 pub mod InterpolationLemmas
 pub mod SignedLemmas
 pub mod FactLemmas
+pub mod PlanarLemmas
 pub mod SmoothingLaneLemmas
 pub mod TurnLemmas
 pub mod LaneLemmas

@@ -9,7 +9,7 @@ use Rattle.hv_lemmas.specs.Lists.{tabulate}
 use Rattle.hv_sample_model.specs.Blocks.{square}
 use Rattle.hv_intra.specs.Blocks.{IsRow, HasRows}
 
-row_below : (y z n : ℕ) → y < z → y * n + n ≤ z * n
+pub row_below : (y z n : ℕ) → y < z → y * n + n ≤ z * n
 row_below y z n h =
     let m : suc y * n ≤ z * n = mul-le-mul_right n h in omega (arith, m)
 

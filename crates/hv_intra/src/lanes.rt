@@ -17,6 +17,17 @@ use std::simd::prelude::*;
 /// predicted, in eights.
 pub(crate) const PREPARED: usize = 104;
 
+/// Copies N samples. The compiler knows of lanes that were loaded that what is written doesn't
+/// change them.
+#[inline(always)]
+pub(crate) fn copy_run<const N: usize>(from: &[u8], to: &mut [u8])
+    requires from { length from.now ≡ N }
+    requires to { length to.old ≡ N }
+    ensures { to.new ≡ from.now }
+{
+    Simd::<u8, N>::from_slice(from).copy_to_slice(to);
+}
+
 /// The bases of reference samples.
 #[inline(always)]
 fn bases_of(samples: u8x8) -> u16x8
@@ -33,22 +44,16 @@ fn steps_of(samples: u8x8, next: u8x8) -> u16x8
     next.cast::<u16>() - samples.cast::<u16>()
 }
 
-/// Eight samples that lie so many 32nds of a step behind a base.
+/// What lies a weight, in 256ths, of each step behind its base.
 #[inline(always)]
-fn between_8(bases: u16x8, steps: u16x8, part: u8) -> u8x8
-    requires { part < 32 }
-    ensures { result ≡ zip2 (stepped part) bases steps }
+pub(crate) fn between<const N: usize>(
+    bases: Simd<u16, N>,
+    steps: Simd<u16, N>,
+    weight: u16,
+) -> Simd<u8, N>
+    ensures { result ≡ zip2 (stepped weight) bases.entry steps.entry }
 {
-    ((bases + u16x8::splat(8 * u16::from(part)) * steps) >> u16x8::splat(8)).cast::<u8>()
-}
-
-/// Sixteen of them.
-#[inline(always)]
-fn between_16(bases: u16x16, steps: u16x16, part: u8) -> u8x16
-    requires { part < 32 }
-    ensures { result ≡ zip2 (stepped part) bases steps }
-{
-    ((bases + u16x16::splat(8 * u16::from(part)) * steps) >> u16x16::splat(8)).cast::<u8>()
+    ((bases + Simd::<u16, N>::splat(weight) * steps) >> Simd::<u16, N>::splat(8)).cast::<u8>()
 }
 
 /// The bases and steps of eight reference samples.
@@ -66,28 +71,16 @@ fn prepare_eight(samples: &[u8], next: &[u8], bases: &mut [u16], steps: &mut [u1
     steps_of(samples, u8x8::from_slice(next)).copy_to_slice(steps);
 }
 
-/// Writes eight samples between reference samples.
+/// Writes N samples between reference samples.
 #[inline(always)]
-fn fill_eight(bases: &[u16], steps: &[u16], part: u8, out: &mut [u8])
-    requires part { part < 32 }
-    requires bases { length bases.now ≡ 8 }
-    requires steps { length steps.now ≡ 8 }
-    requires room { length out.old ≡ 8 }
-    ensures { IsRow 8 (stepped_at bases.now steps.now part) out.new }
+fn fill_run<const N: usize>(bases: &[u16], steps: &[u16], weight: u16, out: &mut [u8])
+    requires bases { length bases.now ≡ N }
+    requires steps { length steps.now ≡ N }
+    requires room { length out.old ≡ N }
+    ensures { IsRow N (stepped_at bases.now steps.now weight) out.new }
 {
-    between_8(u16x8::from_slice(bases), u16x8::from_slice(steps), part).copy_to_slice(out);
-}
-
-/// Writes sixteen of them.
-#[inline(always)]
-fn fill_sixteen(bases: &[u16], steps: &[u16], part: u8, out: &mut [u8])
-    requires part { part < 32 }
-    requires bases { length bases.now ≡ 16 }
-    requires steps { length steps.now ≡ 16 }
-    requires room { length out.old ≡ 16 }
-    ensures { IsRow 16 (stepped_at bases.now steps.now part) out.new }
-{
-    between_16(u16x16::from_slice(bases), u16x16::from_slice(steps), part).copy_to_slice(out);
+    let bases = Simd::<u16, N>::from_slice(bases);
+    between(bases, Simd::<u16, N>::from_slice(steps), weight).copy_to_slice(out);
 }
 
 /// The bases and steps of all reference samples of a block.
@@ -123,18 +116,20 @@ pub(crate) fn fill_row_in_lanes(
     requires part { part < 32 }
     requires inside { first + length row.old ≤ 104 }
     requires lanes { (length row.old ≡ 8) ⊎ (16 * (length row.old / 16) ≡ length row.old) }
-    ensures { IsRow (length row.old) (λ x. stepped_at bases.now steps.now part (first + x)) row.new }
+    ensures { IsRow (length row.old)
+        (λ x. stepped_at bases.now steps.now (8 * part) (first + x)) row.new }
 {
     let n = row.len();
+    let weight = 8 * u16::from(part);
     if n == 8 {
-        fill_eight(&bases[first..first + 8], &steps[first..first + 8], part, row);
+        fill_run::<8>(&bases[first..first + 8], &steps[first..first + 8], weight, row);
     } else {
         for g in 0..n / 16 {
             let from = first + 16 * g;
-            fill_sixteen(
+            fill_run::<16>(
                 &bases[from..from + 16],
                 &steps[from..from + 16],
-                part,
+                weight,
                 &mut row[16 * g..16 * g + 16],
             );
         }

@@ -8,6 +8,7 @@ ghost use Rattle.std.specs.Prelude.{◌≡◌, ℕ, ◌+◌, ◌*◌, ◌/◌, �
 ghost use Rattle.hv_intra.specs.Blocks.{IsRow, HasRows};
 ghost use Rattle.hv_intra.specs.Turns.{lowest_to_top, woven, of_tile, of_tiles};
 
+use crate::lanes::copy_run;
 use std::simd::prelude::*;
 
 /// The samples of a block of 4x4, turned.
@@ -112,7 +113,7 @@ fn take_tile(columns: &[u8], column: usize, row: usize, tile: &mut [u8; 256])
 {
     for i in 0..16 {
         let at = 32 * (column + i) + row;
-        tile[16 * i..16 * i + 16].copy_from_slice(&columns[at..at + 16]);
+        copy_run::<16>(&columns[at..at + 16], &mut tile[16 * i..16 * i + 16]);
     }
 }
 
@@ -123,8 +124,8 @@ fn join_tiles(first: &[u8; 256], second: &[u8; 256], out: &mut [u8])
     ensures { IsRow 512 (of_tiles first.now second.now) out.new }
 {
     for i in 0..16 {
-        out[32 * i..32 * i + 16].copy_from_slice(&first[16 * i..16 * i + 16]);
-        out[32 * i + 16..32 * i + 32].copy_from_slice(&second[16 * i..16 * i + 16]);
+        copy_run::<16>(&first[16 * i..16 * i + 16], &mut out[32 * i..32 * i + 16]);
+        copy_run::<16>(&second[16 * i..16 * i + 16], &mut out[32 * i + 16..32 * i + 32]);
     }
 }
 

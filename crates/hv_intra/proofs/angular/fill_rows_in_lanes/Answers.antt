@@ -35,14 +35,14 @@ loop-y-preserved g c =
     let count : length (take (y * c.count-n.result + c.count-n.result - y * c.count-n.result)
     (drop (y * c.count-n.result) c.loop-y.out)) ≡ n =
     length-row n c.count-n.result y c.loop-y.out c.count-n.ensures.value c.loop-y-test.true (omega arith) in
-    let long : IsRow n (λ x. stepped_at bases steps c.part.result (c.first.result + x)) c.fill_row_in_lanes.new.row =
-    subst (λ (m : ℕ). IsRow m (λ x. stepped_at bases steps c.part.result (c.first.result + x)) c.fill_row_in_lanes.new.row)
+    let long : IsRow n (λ x. stepped_at bases steps (8 * c.part.result) (c.first.result + x)) c.fill_row_in_lanes.new.row =
+    subst (λ (m : ℕ). IsRow m (λ x. stepped_at bases steps (8 * c.part.result) (c.first.result + x)) c.fill_row_in_lanes.new.row)
     count c.fill_row_in_lanes.ensures in
-    let placed : IsRow n (λ x. stepped_at bases steps c.part.result (first log2 mode y + x)) c.fill_row_in_lanes.new.row =
-    subst (λ (m : ℕ). IsRow n (λ x. stepped_at bases steps c.part.result (m + x)) c.fill_row_in_lanes.new.row)
+    let placed : IsRow n (λ x. stepped_at bases steps (8 * c.part.result) (first log2 mode y + x)) c.fill_row_in_lanes.new.row =
+    subst (λ (m : ℕ). IsRow n (λ x. stepped_at bases steps (8 * c.part.result) (m + x)) c.fill_row_in_lanes.new.row)
     c.first.ensures long in
-    let weighted : IsRow n (λ x. stepped_at bases steps (part mode y) (first log2 mode y + x)) c.fill_row_in_lanes.new.row =
-    subst (λ (p : ℕ). IsRow n (λ x. stepped_at bases steps p (first log2 mode y + x)) c.fill_row_in_lanes.new.row)
+    let weighted : IsRow n (λ x. stepped_at bases steps (8 * part mode y) (first log2 mode y + x)) c.fill_row_in_lanes.new.row =
+    subst (λ (p : ℕ). IsRow n (λ x. stepped_at bases steps (8 * p) (first log2 mode y + x)) c.fill_row_in_lanes.new.row)
     c.part.ensures.value placed in
     let row : IsRow n (sample_between reference (first log2 mode y) (part mode y)) c.fill_row_in_lanes.new.row =
     λ x inside.

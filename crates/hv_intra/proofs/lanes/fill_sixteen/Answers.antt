@@ -1,7 +1,0 @@
-use Rattle.hv_intra.specs.Lanes.{stepped}
-use Rattle.hv_intra.proofs.LaneLemmas.{zipped}
-use Rattle.hv_intra.proofs.lanes.fill_sixteen.Goals as goal
-
-pub returns : goal.returns
-returns c =
-    zipped 16 (stepped c.args.part) c.args.out.now c.args.bases.now c.args.steps.now c.between_16.result c.requires.bases c.requires.steps c.requires.room c.between_16.ensures

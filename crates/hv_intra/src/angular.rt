@@ -5,7 +5,7 @@ ghost use Rattle.hv_intra.specs.Blocks.{IsRow, HasRows};
 ghost use Rattle.hv_intra.specs.References.{first, part, blended, sample_between};
 ghost use Rattle.hv_sample_model.specs.IntraPrediction.{left, above, interpolated};
 
-use crate::lanes::{PREPARED, fill_row_in_lanes, prepare};
+use crate::lanes::{fill_row_in_lanes, prepare};
 use crate::neighbours::{Neighbours, Side};
 use crate::reference::{AngularMode, PLACES, fill_from_above, fill_from_left};
 use crate::turn::{turn_4, turn_8, turn_16, turn_32};
@@ -51,23 +51,25 @@ fn fill_rows_singly(reference: &[u8; PLACES], side: Side, mode: AngularMode, out
     }
 }
 
-/// The rows of a block, in lanes. It isn't inlined: what would grow too large with it stays whole.
+/// The rows of a block, in lanes, from P places of reference samples. It isn't inlined: what would
+/// grow too large with it stays whole.
 #[inline(never)]
-fn fill_rows_in_lanes<const LOG2: u8>(
+fn fill_rows_in_lanes<const LOG2: u8, const P: usize>(
     reference: &[u8; PLACES],
     mode: AngularMode,
     out: &mut [u8],
 )
     requires least { 3 ≤ LOG2 }
     requires most { LOG2 ≤ 5 }
+    requires places { P ≡ 3 * 2 ^ LOG2 + 8 }
     requires room { 2 ^ LOG2 * 2 ^ LOG2 ≤ length out.old }
     ensures { HasRows (2 ^ LOG2) (2 ^ LOG2)
         (λ x y. sample_between reference.now (first LOG2 mode.number y)
         (part mode.number y) x) out.new }
 {
     let side = Side { log2: LOG2 };
-    let mut bases = [0; PREPARED];
-    let mut steps = [0; PREPARED];
+    let mut bases = [0; P];
+    let mut steps = [0; P];
     prepare(reference, side, &mut bases, &mut steps);
     let n = side.count();
     for y in 0..n {
@@ -90,9 +92,9 @@ fn fill_rows(reference: &[u8; PLACES], side: Side, mode: AngularMode, out: &mut 
         fill_rows_singly(reference, side, mode, out);
     } else {
         match side.log2 {
-            3 => fill_rows_in_lanes::<3>(reference, mode, out),
-            4 => fill_rows_in_lanes::<4>(reference, mode, out),
-            _ => fill_rows_in_lanes::<5>(reference, mode, out),
+            3 => fill_rows_in_lanes::<3, 32>(reference, mode, out),
+            4 => fill_rows_in_lanes::<4, 56>(reference, mode, out),
+            _ => fill_rows_in_lanes::<5, 104>(reference, mode, out),
         }
     }
 }

@@ -13,10 +13,6 @@ use crate::neighbours::Side;
 use crate::reference::PLACES;
 use std::simd::prelude::*;
 
-/// The places that have bases and steps: all those of the largest block from which a sample is
-/// predicted, in eights.
-pub(crate) const PREPARED: usize = 104;
-
 /// Copies N samples. The compiler knows of lanes that were loaded that what is written doesn't
 /// change them.
 #[inline(always)]
@@ -83,14 +79,16 @@ fn fill_run<const N: usize>(bases: &[u16], steps: &[u16], weight: u16, out: &mut
     between(bases, Simd::<u16, N>::from_slice(steps), weight).copy_to_slice(out);
 }
 
-/// The bases and steps of all reference samples of a block.
+/// The bases and steps of all reference samples of a block, in eights.
 #[inline(always)]
 pub(crate) fn prepare(
     reference: &[u8; PLACES],
     side: Side,
-    bases: &mut [u16; PREPARED],
-    steps: &mut [u16; PREPARED],
+    bases: &mut [u16],
+    steps: &mut [u16],
 )
+    requires bases { length bases.old ≡ 3 * 2 ^ side.log2 + 8 }
+    requires steps { length steps.old ≡ 3 * 2 ^ side.log2 + 8 }
     ensures bases { IsRow (3 * 2 ^ side.log2 + 1) (base_at reference.now) bases.new }
     ensures steps { IsRow (3 * 2 ^ side.log2 + 1) (step_from reference.now) steps.new }
 {
@@ -107,14 +105,15 @@ pub(crate) fn prepare(
 /// A row of 8, 16 or 32 samples, from its first base and step on.
 #[inline(always)]
 pub(crate) fn fill_row_in_lanes(
-    bases: &[u16; PREPARED],
-    steps: &[u16; PREPARED],
+    bases: &[u16],
+    steps: &[u16],
     first: usize,
     part: u8,
     row: &mut [u8],
 )
     requires part { part < 32 }
-    requires inside { first + length row.old ≤ 104 }
+    requires bases { first + length row.old ≤ length bases.now }
+    requires steps { first + length row.old ≤ length steps.now }
     requires lanes { (length row.old ≡ 8) ⊎ (16 * (length row.old / 16) ≡ length row.old) }
     ensures { IsRow (length row.old)
         (λ x. stepped_at bases.now steps.now (8 * part) (first + x)) row.new }

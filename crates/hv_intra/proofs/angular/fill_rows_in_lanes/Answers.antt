@@ -8,8 +8,16 @@ use Rattle.hv_intra.proofs.RowLemmas.{rows_written, length-row}
 use Rattle.hv_intra.proofs.LaneLemmas.{stepped_between}
 use Rattle.hv_intra.proofs.angular.fill_rows_in_lanes.Goals as goal
 
-pub fill_row_in_lanes-requires-clause-inside : goal.fill_row_in_lanes-requires-clause-inside
-fill_row_in_lanes-requires-clause-inside g c =
+pub fill_row_in_lanes-requires-clause-bases : goal.fill_row_in_lanes-requires-clause-bases
+fill_row_in_lanes-requires-clause-bases g c =
+    let few = side_few g.row.LOG2 (omega (arith, c.requires.least)) c.requires.most in
+    let below : c.loop-y.y < 2 ^ g.row.LOG2 = omega (arith, c.loop-y-test.true, c.count-n.ensures.value) in
+    let f = row_facts g.row.LOG2 c.args.mode.number c.loop-y.y (omega (arith, c.requires.least)) c.requires.most c.args.mode.first c.args.mode.last below in
+    let count = length-row (2 ^ g.row.LOG2) c.count-n.result c.loop-y.y c.loop-y.out c.count-n.ensures.value c.loop-y-test.true (omega arith) in
+    omega (arith, few, f.most, count, c.first.ensures)
+
+pub fill_row_in_lanes-requires-clause-steps : goal.fill_row_in_lanes-requires-clause-steps
+fill_row_in_lanes-requires-clause-steps g c =
     let few = side_few g.row.LOG2 (omega (arith, c.requires.least)) c.requires.most in
     let below : c.loop-y.y < 2 ^ g.row.LOG2 = omega (arith, c.loop-y-test.true, c.count-n.ensures.value) in
     let f = row_facts g.row.LOG2 c.args.mode.number c.loop-y.y (omega (arith, c.requires.least)) c.requires.most c.args.mode.first c.args.mode.last below in

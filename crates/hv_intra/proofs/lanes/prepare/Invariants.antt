@@ -7,6 +7,4 @@ abbrev pub invariant-loop-g : goal.invariant-loop-g
 invariant-loop-g l = record {
   bases : IsRow (8 * l.g) (base_at l.reference) l.bases;
   steps : IsRow (8 * l.g) (step_from l.reference) l.steps;
-  bases_all : length l.bases ≡ 104;
-  steps_all : length l.steps ≡ 104;
 }

@@ -1,5 +1,5 @@
 -- What is computed over all sides, modes and rows.
-use Rattle.std.proofs.Common.{◌≡◌, ℕ, ◌+◌, ◌-◌, ◌*◌, ◌^◌, ◌<◌, ◌≤◌, Bool, true, false, refl, arith, nat_lt, ◌||◌, ◌&&◌, inl, inr, cond}
+use Rattle.std.proofs.Common.{◌≡◌, ℕ, ◌+◌, ◌-◌, ◌*◌, ◌/◌, ◌%◌, ◌^◌, ◌<◌, ◌≤◌, Bool, true, false, refl, arith, nat_lt, ◌||◌, ◌&&◌, inl, inr, cond}
 use Rattle.std.specs.Prelude.{◌⊎◌}
 use Rattle.std.proofs.Math.Dec.{ltb, eqb, leb}
 use Rattle.std.specs.Prelude.{ℤ, pos, negsuc, ◌+ℤ◌, ◌*ℤ◌}
@@ -159,3 +159,19 @@ unfolding place_test projected
 projected_is mode i from to below =
     let r = holds_between 11 26 (λ mode. all_below 32 (place_test mode)) places_pass mode from (omega arith) in
     natural (int_shr (negsuc i *ℤ invAngle mode +ℤ pos 128) 8) (holds_below 32 (place_test mode) r i below)
+
+-- ---- weights
+weight_test : ℕ → ℕ → Bool
+weight_test mode across = eqb ((across + 1) * (2048 * part mode 0) % 65536 / 256) (8 * part mode across)
+
+weights_pass : all_below 35 (λ mode. nat_lt mode 2 || all_below 32 (weight_test mode)) ≡ true
+unfolding weight_test part
+weights_pass = refl
+
+-- the weight of a row, in 256ths, is what is left of so many times that of the first
+pub weight_is : (mode across : ℕ) → 2 ≤ mode → mode ≤ 34 → across < 32 →
+    (across + 1) * (2048 * part mode 0) % 65536 / 256 ≡ 8 * part mode across
+unfolding weight_test
+weight_is mode across from to below =
+    let r = holds_between 2 35 (λ mode. all_below 32 (weight_test mode)) weights_pass mode from (omega arith) in
+    eqb-true _ _ (holds_below 32 (weight_test mode) r across below)

@@ -1,5 +1,5 @@
 -- Samples between reference samples, lane by lane.
-use Rattle.std.proofs.Common.{◌≡◌, ℕ, zero, suc, ◌+◌, ◌-◌, ◌*◌, ◌/◌, ◌%◌, ◌<◌, ◌≤◌, List, [], ◌∷◌, length, take, map, replicate, get_or, cond, eqb, false, refl, sym, ap, ap₂, ◌∙◌, arith, inl, inr, subst, mul-add, Fits, w8}
+use Rattle.std.proofs.Common.{◌≡◌, ℕ, zero, suc, ◌+◌, ◌-◌, ◌*◌, ◌/◌, ◌%◌, ◌<◌, ◌≤◌, List, [], ◌∷◌, length, take, drop, map, replicate, get_or, cond, eqb, false, refl, sym, ap, ap₂, ◌∙◌, arith, inl, inr, subst, mul-add, Fits, w8}
 use Rattle.std.specs.Prelude.{◌⊎◌}
 use Rattle.std.proofs.lemmas.Bool.{cases_lt, ne_eqb}
 use Rattle.std.proofs.lemmas.Simd.{put_chunk_whole, get_or-zip2, length-zip2}
@@ -9,9 +9,10 @@ use lib.Seq.{take_all}
 use mir.Syntax.{w16, wrap_add, wrap_sub, wrap_mul, shr, cast, unsigned}
 use borrow.Rule.Simd.Lanes.{act1, act2, Asks1}
 use borrow.Table.Row.{s_int}
-use Rattle.hv_intra.specs.Lanes.{base, step, stepped, base_at, step_at, stepped_at}
+use Rattle.hv_intra.specs.Lanes.{base, step, stepped, base_at, stepped_at}
 use Rattle.std.proofs.Math.Nat.{mul-le-mul_right}
 use Rattle.hv_intra.specs.References.{blended, sample_between}
+use Rattle.hv_intra.proofs.RowLemmas.{in_part}
 
 abbrev pub plus : ℕ → ℕ → ℕ
 plus = act2 wrap_add (s_int w16) (s_int w16) (s_int w16)
@@ -55,33 +56,40 @@ steps_are (x ∷ xs) (y ∷ ys) f g =
     ap₂ (λ (a : ℕ) (b : List ℕ). a ∷ b) (step_is x y f.0.fits g.0.fits) (steps_are xs ys f.1 g.1)
 
 -- ---- a part of the way
-abbrev pub between : ℕ → ℕ → List ℕ → List ℕ → List ℕ
-between n p bs ss =
-    zip2 down (zip2 plus bs (zip2 times (replicate n p) ss)) (replicate n 8)
+abbrev pub between : ℕ → List ℕ → List ℕ → List ℕ → List ℕ
+between n ws bs ss = zip2 down (zip2 plus bs (zip2 times ws ss)) (replicate n 8)
 
-lane_is : (p b s : ℕ) → narrow (down (plus b (times p s)) 8) ≡ stepped p b s
-lane_is p b s = omega arith
+lane_is : (w b s : ℕ) → narrow (down (plus b (times w s)) 8) ≡ stepped w b s
+lane_is w b s = omega arith
 
-pub between_is : (n p : ℕ) (bs ss : List ℕ) → length bs ≡ n → length ss ≡ n →
-    map narrow (between n p bs ss) ≡ zip2 (stepped p) bs ss
-between_is zero p [] [] l m = refl
-between_is zero p [] (s ∷ ss) l m = absurd (omega arith)
-between_is zero p (b ∷ bs) ss l m = absurd (omega arith)
-between_is (suc n) p [] ss l m = absurd (omega arith)
-between_is (suc n) p (b ∷ bs) [] l m = absurd (omega arith)
-between_is (suc n) p (b ∷ bs) (s ∷ ss) l m =
-    ap₂ (λ (a : ℕ) (b : List ℕ). a ∷ b) (lane_is p b s) (between_is n p bs ss (omega arith) (omega arith))
+pub between_is : (n w : ℕ) (bs ss : List ℕ) → length bs ≡ n → length ss ≡ n →
+    map narrow (between n (replicate n w) bs ss) ≡ zip2 (stepped w) bs ss
+between_is zero w [] [] l m = refl
+between_is zero w [] (s ∷ ss) l m = absurd (omega arith)
+between_is zero w (b ∷ bs) ss l m = absurd (omega arith)
+between_is (suc n) w [] ss l m = absurd (omega arith)
+between_is (suc n) w (b ∷ bs) [] l m = absurd (omega arith)
+between_is (suc n) w (b ∷ bs) (s ∷ ss) l m =
+    ap₂ (λ (a : ℕ) (b : List ℕ). a ∷ b) (lane_is w b s) (between_is n w bs ss (omega arith) (omega arith))
 
-lane_fits : (p b s : ℕ) → Asks1 (cast unsigned unsigned w8) (s_int w16) (down (plus b (times p s)) 8)
-lane_fits p b s = omega arith
+lane_fits : (w b s : ℕ) → Asks1 (cast unsigned unsigned w8) (s_int w16) (down (plus b (times w s)) 8)
+lane_fits w b s = omega arith
 
-pub between_fits : (n p : ℕ) (bs ss : List ℕ) →
-    Each1 (Asks1 (cast unsigned unsigned w8) (s_int w16)) (between n p bs ss)
-between_fits zero p [] ss = tt
-between_fits zero p (b ∷ bs) ss = tt
-between_fits (suc n) p [] ss = tt
-between_fits (suc n) p (b ∷ bs) [] = tt
-between_fits (suc n) p (b ∷ bs) (s ∷ ss) = (lane_fits p b s, between_fits n p bs ss)
+pub between_fits : (n : ℕ) (ws bs ss : List ℕ) →
+    Each1 (Asks1 (cast unsigned unsigned w8) (s_int w16)) (between n ws bs ss)
+between_fits n ws [] ss = tt
+between_fits n [] (b ∷ bs) ss = tt
+between_fits n (w ∷ ws) (b ∷ bs) [] = tt
+between_fits zero (w ∷ ws) (b ∷ bs) (s ∷ ss) = tt
+between_fits (suc n) (w ∷ ws) (b ∷ bs) (s ∷ ss) = (lane_fits w b s, between_fits n ws bs ss)
+
+pub same_lanes : (n a b : ℕ) (f : ℕ → ℕ → ℕ) → zip2 f (replicate n a) (replicate n b) ≡ replicate n (f a b)
+same_lanes zero a b f = refl
+same_lanes (suc n) a b f = ap (λ (v : List ℕ). f a b ∷ v) (same_lanes n a b f)
+
+pub further_on : (y t : ℕ) → (y * t % 65536 + t) % 65536 ≡ (y + 1) * t % 65536
+further_on y t =
+    let more : (y + 1) * t ≡ y * t + t = grind arith in rw more (omega arith)
 
 -- ---- what is written
 pub bases_written : (n : ℕ) (out xs lanes : List ℕ) → length xs ≡ n → length out ≡ n →
@@ -165,3 +173,9 @@ stepped_between p first x reference bases steps h f b s =
 pub copied : (n : ℕ) (from to : List ℕ) → length from ≡ n → length to ≡ n → put_chunk 0 to (take n from) ≡ from
 copied n from to l m =
     ap (put_chunk 0 to) (take_all n from (omega (arith, l))) ∙ put_chunk_whole to from (m ∙ sym l)
+
+-- a place of a run
+pub run_is : (from k l i place w : ℕ) (bases steps : List ℕ) → i < k → i < l → place ≡ from + i →
+    stepped_at (take k (drop from bases)) (take l (drop from steps)) w i ≡ stepped_at bases steps w place
+run_is from k l i place w bases steps below inside e =
+    ap₂ (stepped w) (in_part from k i bases below) (in_part from l i steps inside) ∙ ap (stepped_at bases steps w) (sym e)

@@ -1,12 +1,11 @@
 -- Intra_Planar, lane by lane.
-use Rattle.std.proofs.Common.{◌≡◌, ℕ, zero, suc, ◌+◌, ◌-◌, ◌*◌, ◌/◌, ◌%◌, ◌^◌, ◌<◌, ◌≤◌, List, [], ◌∷◌, length, take, drop, map, replicate, get_or, eqb, refl, sym, ap, ap₂, ◌∙◌, subst, arith, Fits, w8, mul-add}
-use Rattle.std.proofs.Math.Nat.{mul-le-mul, mul-le-mul_left, mul-le-mul_right}
+use Rattle.std.proofs.Common.{◌≡◌, ℕ, zero, suc, ◌+◌, ◌-◌, ◌*◌, ◌/◌, ◌^◌, ◌<◌, ◌≤◌, List, [], ◌∷◌, length, take, drop, map, replicate, get_or, eqb, refl, sym, ap, ap₂, ◌∙◌, arith, Fits, w8}
+use Rattle.std.proofs.Math.Nat.{mul-le-mul, mul-le-mul_left}
 use Rattle.std.proofs.lemmas.Bool.{eqb-true}
 use Rattle.std.proofs.lemmas.List.{get_or-take, get_or-map, length-take-le, length-map}
 use Rattle.std.proofs.lemmas.Simd.{put_chunk_whole, get_or-zip2, length-zip2, get_or-replicate, length-replicate}
 use lib.Lanes.{Each1, zip2, put_chunk}
-use lib.Seq.{take_all}
-use Rattle.hv_lemmas.proofs.ComputedLemmas.{all_below, holds_below}
+use Rattle.hv_lemmas.proofs.ComputedLemmas.{holds_below}
 use Rattle.hv_sample_model.specs.IntraPrediction.{planar, left, above}
 use Rattle.hv_intra.specs.Blocks.{IsRow}
 use Rattle.hv_intra.specs.Lanes.{first_sum, planar_step, wrapped_sum, stepped}
@@ -171,14 +170,15 @@ pub planar_begun : (log2 n m right : ℕ) (line rs sums : List ℕ) → 2 ≤ lo
 planar_begun log2 n m right line rs sums least most side em long bytes lr up r is =
     let e : 128 / n * n ≡ 128 = ap (λ m. 128 / m * m) side ∙ scaled log2 least most in
     let xs : List ℕ = take n (take m (drop (2 * n + 1) line)) in
-    let lx : length xs ≡ n = above_long log2 n m line em long in
-    (ap length is ∙ length-zip2 (first_sum (128 / n * right)) xs rs (lx ∙ sym lr) ∙ lx,
-    (λ x inside.
-    ap (λ v. get_or v x 0) is ∙
-    get_or-zip2 (first_sum (128 / n * right)) xs rs x 0 0 0 (omega (arith, lx, inside)) (omega (arith, lr, inside)) ∙
-    ap₂ (first_sum (128 / n * right)) (above_lane log2 n m x line side em inside) (up x inside) ∙
-    ap (λ q. first_sum (128 / n * q) (above log2 line (x + 1)) (x + 1)) r ∙
-    first_lane (128 / n) n x (above log2 line (x + 1)) (above log2 line (n + 1)) (left log2 line (n + 1)) e inside (bytes _) (bytes _)))
+    let lx : length xs ≡ n = above_long log2 n m line em long in (
+      ap length is ∙ length-zip2 (first_sum (128 / n * right)) xs rs (lx ∙ sym lr) ∙ lx,
+      (λ x inside.
+          ap (λ v. get_or v x 0) is ∙
+          get_or-zip2 (first_sum (128 / n * right)) xs rs x 0 0 0 (omega (arith, lx, inside)) (omega (arith, lr, inside)) ∙
+          ap₂ (first_sum (128 / n * right)) (above_lane log2 n m x line side em inside) (up x inside) ∙
+          ap (λ q. first_sum (128 / n * q) (above log2 line (x + 1)) (x + 1)) r ∙
+          first_lane (128 / n) n x (above log2 line (x + 1)) (above log2 line (n + 1)) (left log2 line (n + 1)) e inside (bytes _) (bytes _)),
+    )
 
 pub planar_next : (log2 n m lower y : ℕ) (line steps sums next : List ℕ) → 2 ≤ log2 → log2 ≤ 5 → n ≡ 2 ^ log2 → m ≡ n →
     length line ≡ 4 * n + 1 → ((i : ℕ) → get_or line i 0 < 256) → y < n → lower ≡ left log2 line (n + 1) →
@@ -189,27 +189,29 @@ planar_next log2 n m lower y line steps sums next least most side em long bytes 
     let e : 128 / n * n ≡ 128 = ap (λ m. 128 / m * m) side ∙ scaled log2 least most in
     let xs : List ℕ = take n (take m (drop (2 * n + 1) line)) in
     let lx : length xs ≡ n = above_long log2 n m line em long in
-    let lt : length steps ≡ n = ap length are ∙ length-map xs (planar_step (128 / n) (128 / n * lower)) ∙ lx in
-    (ap length is ∙ length-zip2 wrapped_sum sums steps (ls ∙ sym lt) ∙ ls,
-    (λ x inside.
-    ap (λ v. get_or v x 0) is ∙
-    get_or-zip2 wrapped_sum sums steps x 0 0 0 (omega (arith, ls, inside)) (omega (arith, lt, inside)) ∙
-    ap₂ wrapped_sum (before x inside)
-    (ap (λ v. get_or v x 0) are ∙ get_or-map (planar_step (128 / n) (128 / n * lower)) xs x 0 0 (omega (arith, lx, inside)) ∙
-    ap₂ (λ q a. planar_step (128 / n) (128 / n * q) a) l (above_lane log2 n m x line side em inside)) ∙
-    next_lane (128 / n) n x y (above log2 line (x + 1)) (above log2 line (n + 1)) (left log2 line (n + 1)) e inside row (bytes _) (bytes _) (bytes _)))
+    let lt : length steps ≡ n = ap length are ∙ length-map xs (planar_step (128 / n) (128 / n * lower)) ∙ lx in (
+      ap length is ∙ length-zip2 wrapped_sum sums steps (ls ∙ sym lt) ∙ ls,
+      (λ x inside.
+          ap (λ v. get_or v x 0) is ∙
+          get_or-zip2 wrapped_sum sums steps x 0 0 0 (omega (arith, ls, inside)) (omega (arith, lt, inside)) ∙
+          ap₂ wrapped_sum (before x inside)
+          (ap (λ v. get_or v x 0) are ∙ get_or-map (planar_step (128 / n) (128 / n * lower)) xs x 0 0 (omega (arith, lx, inside)) ∙
+          ap₂ (λ q a. planar_step (128 / n) (128 / n * q) a) l (above_lane log2 n m x line side em inside)) ∙
+          next_lane (128 / n) n x y (above log2 line (x + 1)) (above log2 line (n + 1)) (left log2 line (n + 1)) e inside row (bytes _) (bytes _) (bytes _)),
+    )
 
 pub planar_row : (log2 n p y : ℕ) (line sums falls row : List ℕ) → 2 ≤ log2 → log2 ≤ 5 → n ≡ 2 ^ log2 →
     ((i : ℕ) → get_or line i 0 < 256) → y < n → p ≡ left log2 line (y + 1) →
     length sums ≡ n → IsRow n (λ x. row_sum n log2 line x (y + 1)) sums →
     length falls ≡ n → IsRow n (λ x. n - 1 - x) falls → row ≡ zip2 (stepped (128 / n * p)) sums falls →
     (length row ≡ n) × IsRow n (λ x. planar log2 line x y) row
-planar_row log2 n p y line sums falls row least most side bytes below e ls all lf down is =
-    (ap length is ∙ length-zip2 (stepped (128 / n * p)) sums falls (ls ∙ sym lf) ∙ ls,
-    (λ x inside.
-    ap (λ v. get_or v x 0) is ∙
-    get_or-zip2 (stepped (128 / n * p)) sums falls x 0 0 0 (omega (arith, ls, inside)) (omega (arith, lf, inside)) ∙
-    ap₂ (stepped (128 / n * p)) (all x inside) (down x inside) ∙
-    ap (λ q. stepped (128 / n * q) (row_sum n log2 line x (y + 1)) (n - 1 - x)) e ∙
-    last_lane log2 n x y (above log2 line (x + 1)) (above log2 line (n + 1)) (left log2 line (n + 1)) (left log2 line (y + 1)) least most side inside below (bytes _) (bytes _) (bytes _) (bytes _) ∙
-    ap (λ m. ((m - 1 - x) * left log2 line (y + 1) + (x + 1) * above log2 line (m + 1) + (m - 1 - y) * above log2 line (x + 1) + (y + 1) * left log2 line (m + 1) + m) / 2 ^ (log2 + 1)) side))
+planar_row log2 n p y line sums falls row least most side bytes below e ls all lf down is = (
+  ap length is ∙ length-zip2 (stepped (128 / n * p)) sums falls (ls ∙ sym lf) ∙ ls,
+  (λ x inside.
+      ap (λ v. get_or v x 0) is ∙
+      get_or-zip2 (stepped (128 / n * p)) sums falls x 0 0 0 (omega (arith, ls, inside)) (omega (arith, lf, inside)) ∙
+      ap₂ (stepped (128 / n * p)) (all x inside) (down x inside) ∙
+      ap (λ q. stepped (128 / n * q) (row_sum n log2 line x (y + 1)) (n - 1 - x)) e ∙
+      last_lane log2 n x y (above log2 line (x + 1)) (above log2 line (n + 1)) (left log2 line (n + 1)) (left log2 line (y + 1)) least most side inside below (bytes _) (bytes _) (bytes _) (bytes _) ∙
+      ap (λ m. ((m - 1 - x) * left log2 line (y + 1) + (x + 1) * above log2 line (m + 1) + (m - 1 - y) * above log2 line (x + 1) + (y + 1) * left log2 line (m + 1) + m) / 2 ^ (log2 + 1)) side),
+)

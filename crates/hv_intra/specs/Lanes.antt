@@ -1,5 +1,5 @@
 -- Samples between reference samples, from what is made of these once a block.
-use Rattle.std.specs.Prelude.{◌≡◌, ℕ, ◌+◌, ◌-◌, ◌*◌, ◌/◌, ◌%◌, List, slice_index}
+use Rattle.std.specs.Prelude.{ℕ, ◌+◌, ◌-◌, ◌*◌, ◌/◌, ◌%◌, List, slice_index}
 
 -- the base of a reference sample
 abbrev pub base : ℕ → ℕ

@@ -1,5 +1,5 @@
 -- Steps by which columns become rows.
-use Rattle.std.specs.Prelude.{ℕ, ◌+◌, ◌-◌, ◌*◌, ◌/◌, ◌%◌, cond, nat_lt, List, ◌++◌, slice_index}
+use Rattle.std.specs.Prelude.{ℕ, ◌+◌, ◌*◌, ◌/◌, ◌%◌, cond, nat_lt, List, ◌++◌, slice_index}
 
 -- where a sample of a block of so many stood, before the lowest bit of its place went to the top
 abbrev pub lowest_to_top : ℕ → ℕ → ℕ

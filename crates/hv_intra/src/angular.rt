@@ -5,10 +5,11 @@ ghost use Rattle.hv_intra.specs.Blocks.{IsRow, HasRows};
 ghost use Rattle.hv_intra.specs.References.{first, part, blended, sample_between};
 ghost use Rattle.hv_sample_model.specs.IntraPrediction.{left, above, interpolated};
 
-use crate::lanes::{fill_row_in_lanes, prepare};
+use crate::lanes::{fill_row_in_lanes, further, prepare, weights_of};
 use crate::neighbours::{Neighbours, Side};
 use crate::reference::{AngularMode, PLACES, fill_from_above, fill_from_left};
 use crate::turn::{turn_4, turn_8, turn_16, turn_32};
+use std::simd::prelude::*;
 
 /// The sample between two neighbouring reference samples (8.4.4.2.6).
 #[inline(always)]
@@ -71,10 +72,13 @@ fn fill_rows_in_lanes<const LOG2: u8, const P: usize>(
     let mut bases = [0; P];
     let mut steps = [0; P];
     prepare(reference, side, &mut bases, &mut steps);
+    let turn = u16x16::splat(2048 * u16::from(mode.part(0)));
+    let mut ways = u16x16::splat(0);
     let n = side.count();
     for y in 0..n {
+        ways = further(ways, turn);
         let row = &mut out[y * n..y * n + n];
-        fill_row_in_lanes(&bases, &steps, mode.first(side, y), mode.part(y), row);
+        fill_row_in_lanes(&bases, &steps, mode.first(side, y), weights_of(ways), row);
     }
 }
 

@@ -13,9 +13,9 @@ mod predict;
 mod reference;
 mod smoothing;
 mod straight;
-mod turn;
 #[cfg(test)]
 mod tests;
+mod turn;
 
 pub use line::Line;
 pub use predict::predict_intra;

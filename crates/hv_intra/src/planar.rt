@@ -41,11 +41,7 @@ fn falling<const N: usize>() -> Simd<u16, N>
 
 /// The sums above the first row, from the neighbours above, and the one behind the row above.
 #[inline(always)]
-fn first_sums<const N: usize>(
-    above: Simd<u8, N>,
-    rising: Simd<u16, N>,
-    right: u16,
-) -> Simd<u16, N>
+fn first_sums<const N: usize>(above: Simd<u8, N>, rising: Simd<u16, N>, right: u16) -> Simd<u16, N>
     ensures { result ≡ zip2 (first_sum right) above.entry rising.entry }
 {
     above.cast::<u16>() * Simd::<u16, N>::splat(128)
@@ -76,7 +72,7 @@ fn put_row<const N: usize>(sums: Simd<u16, N>, falling: Simd<u16, N>, left: u16,
     requires { length row.old ≡ N }
     ensures { row.new ≡ zip2 (stepped left) sums.entry falling.entry }
 {
-    between(sums, falling, left).copy_to_slice(row);
+    between(sums, falling, Simd::<u16, N>::splat(left)).copy_to_slice(row);
 }
 
 /// The rows of a block of N columns.

@@ -125,7 +125,10 @@ fn join_tiles(first: &[u8; 256], second: &[u8; 256], out: &mut [u8])
 {
     for i in 0..16 {
         copy_run::<16>(&first[16 * i..16 * i + 16], &mut out[32 * i..32 * i + 16]);
-        copy_run::<16>(&second[16 * i..16 * i + 16], &mut out[32 * i + 16..32 * i + 32]);
+        copy_run::<16>(
+            &second[16 * i..16 * i + 16],
+            &mut out[32 * i + 16..32 * i + 32],
+        );
     }
 }
 

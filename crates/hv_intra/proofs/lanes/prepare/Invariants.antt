@@ -1,4 +1,4 @@
-use Rattle.std.proofs.Common.{◌≡◌, ◌*◌, length}
+use Rattle.std.proofs.Common.{◌*◌}
 use Rattle.hv_intra.specs.Blocks.{IsRow}
 use Rattle.hv_intra.specs.Lanes.{base_at, step_from}
 use Rattle.hv_intra.proofs.lanes.prepare.Given as goal

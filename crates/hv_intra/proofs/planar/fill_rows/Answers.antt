@@ -1,4 +1,4 @@
-use Rattle.std.proofs.Common.{◌≡◌, ◌+◌, ◌-◌, ◌*◌, ℕ, List, length, arith, ap, refl, ◌∙◌}
+use Rattle.std.proofs.Common.{◌+◌, ◌-◌, ◌*◌, ℕ, List, arith, ◌∙◌}
 use Rattle.hv_sample_model.specs.IntraPrediction.{planar}
 use Rattle.hv_intra.proofs.PlanarLemmas.{planar_begun, planar_next, planar_row}
 use Rattle.hv_intra.proofs.RowLemmas.{rows_more, row_below}
@@ -11,7 +11,7 @@ loop-y-init g c =
     let begun = planar_begun s.log2 n (3 * n + 1 - (2 * n + 1)) c.from-2.result c.args.line.now c.rising.result c.first_sums-all.result
     s.least s.most c.requires.side (omega arith) c.requires.line (λ i. (c.type_inv.line i).fits) c.rising.ensures.count c.rising.ensures.each
     (c.from-2.ensures ∙ c.above.ensures) c.first_sums-all.ensures in
-    record { count = begun.0; sums = begun.1; rows = λ x y inside none. absurd (omega (arith, none)); }
+    record { count = begun.0; sums = begun.1; rows = λ x y inside none. absurd (omega (arith, none)) }
 
 pub loop-y-preserved : goal.loop-y-preserved
 loop-y-preserved g c =

@@ -1,5 +1,5 @@
-use Rattle.std.proofs.Common.{◌≡◌, ◌+◌, ◌-◌, ◌*◌, length}
-use Rattle.hv_sample_model.specs.IntraPrediction.{planar, left, above}
+use Rattle.std.proofs.Common.{◌≡◌, length}
+use Rattle.hv_sample_model.specs.IntraPrediction.{planar}
 use Rattle.hv_intra.specs.Blocks.{IsRow, HasRows}
 use Rattle.hv_intra.proofs.PlanarLemmas.{row_sum}
 use Rattle.hv_intra.proofs.planar.fill_rows.Given as goal

@@ -1,4 +1,4 @@
-use Rattle.std.proofs.Common.{◌*◌, ◌+◌, ◌-◌, arith}
+use Rattle.std.proofs.Common.{arith}
 use Rattle.hv_intra.proofs.TurnLemmas.{step_more}
 use Rattle.hv_intra.proofs.turn.step.Goals as goal
 

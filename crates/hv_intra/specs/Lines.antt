@@ -11,7 +11,8 @@ weighted before sample next = (before + 2 * sample + next + 2) / 4
 
 -- a neighbour with those beside it
 abbrev pub weighted_at : List ℕ → ℕ → ℕ
-weighted_at line i = weighted (slice_index line (i - 1)) (slice_index line i) (slice_index line (i + 1))
+weighted_at line i =
+    weighted (slice_index line (i - 1)) (slice_index line i) (slice_index line (i + 1))
 
 -- each of one list with those of two others
 abbrev pub all_weighted : List ℕ → List ℕ → List ℕ → List ℕ

@@ -1,8 +1,8 @@
 //! Samples between reference samples (8.4.4.2.6), in lanes of 16 bits, which wrap.
 //!
-//! The sample that is `part` 32nds of the way from a to b is `(256 * a + 128 + 8 * part * (b - a)) /
-//! 256`. What doesn't depend on the part is made once a block, for each reference sample: its base
-//! `256 * a + 128`, and its step `b - a` to the next one.
+//! The sample that is `part` 32nds of the way from a to b is a 256th of
+//! `256 * a + 128 + 8 * part * (b - a)`. What doesn't depend on the part is made once a block, for
+//! each reference sample: its base `256 * a + 128`, and its step `b - a` to the next one.
 
 ghost use Rattle.std.specs.Prelude.{◌≡◌, ◌⊎◌, ℕ, ◌+◌, ◌*◌, ◌/◌, ◌%◌, ◌^◌, ◌<◌, ◌≤◌, length, slice_index, map, replicate};
 ghost use Rattle.hv_intra.specs.Blocks.{IsRow};
@@ -40,7 +40,8 @@ fn steps_of(samples: u8x8, next: u8x8) -> u16x8
     next.cast::<u16>() - samples.cast::<u16>()
 }
 
-/// What lies a weight, in 256ths, of each step behind its base. The lanes of `weights` are the same.
+/// What lies a weight, in 256ths, of each step behind its base. The lanes of `weights` are all the
+/// same.
 #[inline(always)]
 pub(crate) fn between<const N: usize>(
     bases: Simd<u16, N>,
@@ -125,8 +126,8 @@ pub(crate) fn prepare(reference: &[u8; PLACES], side: Side, bases: &mut [u16], s
     }
 }
 
-/// A row of 8, 16 or 32 samples, from its first base and step on. The lanes of `weights` are the
-/// same.
+/// A row of 8, 16 or 32 samples, from its first base and step on. The lanes of `weights` are all
+/// the same.
 #[inline(always)]
 pub(crate) fn fill_row_in_lanes(
     bases: &[u16],

@@ -1,8 +1,8 @@
 //! Columns of a block as rows.
 //!
-//! A block of 8 or 16 columns is turned by steps that each move the lowest bit of a sample's place to
-//! the top: as many of them as the side has bits exchange column and row. A step takes two runs of
-//! 16 samples in turn, one from each half of the block.
+//! A block of 8 or 16 columns is turned by steps that each move the lowest bit of a sample's place
+//! to the top: as many of them as a column's number has bits exchange column and row. A step takes
+//! two runs of 16 samples in turn, one from each half of the block. One of 32 is turned by tiles.
 
 ghost use Rattle.std.specs.Prelude.{◌≡◌, ℕ, ◌+◌, ◌*◌, ◌/◌, ◌%◌, ◌<◌, ◌≤◌, ◌++◌, length, slice_index};
 ghost use Rattle.hv_intra.specs.Blocks.{IsRow, HasRows};

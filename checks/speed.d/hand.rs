@@ -2,7 +2,7 @@
 //! SSE4.1: a second yardstick beside plain Rust. Nothing of it is shipped.
 #![allow(unsafe_op_in_unsafe_fn)]
 
-use crate::entry;
+use crate::{FACTORS, LEVEL_SCALE, entry};
 use core::arch::x86_64::*;
 
 // T of size m
@@ -753,5 +753,58 @@ pub fn forward(r: &[i16], log2: u8, out: &mut [i32]) {
             4 => fwd_n::<16>(r, out),
             _ => fwd_n::<32>(r, out),
         }
+    }
+}
+
+// Eights of levels. The factor 16 of scaling is left out, and so fewer bits are shifted away.
+#[inline(never)]
+pub fn scale(levels: &[i16], log2: u8, qp: u8, out: &mut [i32]) {
+    assert!(levels.len() == out.len() && out.len() % 8 == 0);
+    let shift = i32::from(log2) - 1;
+    let factor = (LEVEL_SCALE[usize::from(qp % 6)] << (qp / 6)) as i16;
+    unsafe {
+        let factor = _mm_set1_epi16(factor);
+        let half = _mm_set1_epi32(1 << (shift - 1));
+        let shift = _mm_cvtsi32_si128(shift);
+        let (least, most) = (_mm_set1_epi32(-32768), _mm_set1_epi32(32767));
+        let base = out.as_mut_ptr();
+        for i in (0..out.len()).step_by(8) {
+            let level = _mm_loadu_si128(levels.as_ptr().add(i) as *const __m128i);
+            let low = _mm_mullo_epi16(level, factor);
+            let high = _mm_mulhi_epi16(level, factor);
+            let put = |at: usize, product| {
+                let value = _mm_sra_epi32(_mm_add_epi32(product, half), shift);
+                let value = _mm_min_epi32(_mm_max_epi32(value, least), most);
+                _mm_storeu_si128(base.add(at) as *mut __m128i, value);
+            };
+            put(i, _mm_unpacklo_epi16(low, high));
+            put(i + 4, _mm_unpackhi_epi16(low, high));
+        }
+    }
+}
+
+// Eights of coefficients. The upper half of each is its sign, which has the weight 0.
+#[inline(never)]
+pub fn quantise(coefficients: &[i32], log2: u8, qp: u8, intra: bool, out: &mut [i16]) -> bool {
+    assert!(coefficients.len() == out.len() && out.len() % 8 == 0);
+    let shift = 21 + i32::from(qp) / 6 - i32::from(log2);
+    let offset = if intra { 171 } else { 85 } << (shift - 9);
+    unsafe {
+        let factor = _mm_set1_epi32(FACTORS[usize::from(qp % 6)] as i32);
+        let offset = _mm_set1_epi32(offset);
+        let shift = _mm_cvtsi32_si128(shift);
+        let mut all = _mm_setzero_si128();
+        for i in (0..out.len()).step_by(8) {
+            let four = |at: usize| {
+                let number = _mm_loadu_si128(coefficients.as_ptr().add(at) as *const __m128i);
+                let product = _mm_madd_epi16(number, factor);
+                let size = _mm_add_epi32(_mm_abs_epi32(product), offset);
+                _mm_sign_epi32(_mm_srl_epi32(size, shift), product)
+            };
+            let levels = _mm_packs_epi32(four(i), four(i + 4));
+            _mm_storeu_si128(out.as_mut_ptr().add(i) as *mut __m128i, levels);
+            all = _mm_or_si128(all, levels);
+        }
+        _mm_testz_si128(all, all) == 0
     }
 }

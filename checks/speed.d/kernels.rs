@@ -829,6 +829,17 @@ fn inter_filter<const N: usize, const T: usize>(
         for x in 0..N {
             target[x] = rounded_16(sum_16(taps, &rows, x));
         }
+// Scaling and quantisation, as the definitions have them.
+const LEVEL_SCALE: [u32; 6] = [40, 45, 51, 57, 64, 72];
+const FACTORS: [u32; 6] = [26214, 23302, 20560, 18396, 16384, 14564];
+
+#[inline(never)]
+fn scale(levels: &[i16], log2: u8, qp: u8, out: &mut [i32]) {
+    let shift = u32::from(log2) + 3;
+    let factor = i64::from((16 * LEVEL_SCALE[usize::from(qp % 6)]) << (qp / 6));
+    for (number, &level) in out.iter_mut().zip(levels) {
+        let value = (i64::from(level) * factor + (1 << (shift - 1))) >> shift;
+        *number = value.clamp(-32768, 32767) as i32;
     }
 }
 
@@ -962,11 +973,48 @@ const TRANSFORM_KERNELS: [(&str, bool, u8, usize); 10] = [
     ("forward_8", false, 3, 8),
     ("forward_16", false, 4, 16),
     ("forward_32", false, 5, 32),
+fn quantise(coefficients: &[i32], log2: u8, qp: u8, intra: bool, out: &mut [i16]) -> bool {
+    let shift = 21 + u32::from(qp) / 6 - u32::from(log2);
+    let factor = FACTORS[usize::from(qp % 6)];
+    let offset = if intra { 171 } else { 85 } << (shift - 9);
+    let mut is_some = false;
+    for (level, &coefficient) in out.iter_mut().zip(coefficients) {
+        let size = ((coefficient.unsigned_abs() * factor + offset) >> shift) as i16;
+        *level = if coefficient < 0 { -size } else { size };
+        is_some |= *level != 0;
+    }
+    is_some
+}
+
+#[derive(Clone, Copy)]
+enum Transform {
+    Inverse,
+    Forward,
+    Quantise,
+    Scale,
+}
+
+// A transform: its name, which it is, the side, and how many columns and rows have levels.
+const TRANSFORM_KERNELS: [(&str, Transform, u8, usize); 14] = [
+    ("inverse_8", Transform::Inverse, 3, 8),
+    ("inverse_16", Transform::Inverse, 4, 16),
+    ("inverse_32", Transform::Inverse, 5, 32),
+    ("inverse_corner_16", Transform::Inverse, 4, 8),
+    ("inverse_corner_32", Transform::Inverse, 5, 8),
+    ("inverse_first_16", Transform::Inverse, 4, 1),
+    ("inverse_first_32", Transform::Inverse, 5, 1),
+    ("forward_8", Transform::Forward, 3, 8),
+    ("forward_16", Transform::Forward, 4, 16),
+    ("forward_32", Transform::Forward, 5, 32),
+    ("quantise_8", Transform::Quantise, 3, 8),
+    ("quantise_32", Transform::Quantise, 5, 32),
+    ("scale_8", Transform::Scale, 3, 8),
+    ("scale_32", Transform::Scale, 5, 32),
 ];
 
 // The levels are the residuals of the first columns and rows, scaled at quantiser 26.
 fn checksum_of_transforms(
-    is_inverse: bool,
+    transform: Transform,
     log2: u8,
     kept: usize,
     by_hand: bool,
@@ -979,36 +1027,43 @@ fn checksum_of_transforms(
         state = next(state);
         *number = i16::from((state >> 24) as u8) - 128;
     }
-    let shift = log2 + 3;
-    let scaled = |(i, &level): (usize, &i16)| -> i32 {
-        let is_kept = i % side < kept && i / side < kept;
-        let level = if is_kept { i32::from(level) } else { 0 };
-        let value = (level * (16 * 51 << 4) + (1 << (shift - 1))) >> shift;
-        value.clamp(-32768, 32767)
-    };
-    let coefficients: Vec<i32> = residual.iter().enumerate().map(scaled).collect();
+    let is_kept = |i: usize| i % side < kept && i / side < kept;
+    let first = |(i, &level): (usize, &i16)| if is_kept(i) { level } else { 0 };
+    let levels: Vec<i16> = residual.iter().enumerate().map(first).collect();
+    let mut coefficients = vec![0i32; side * side];
+    scale(&levels, log2, 26, &mut coefficients);
     let mut new_residual = vec![0i16; side * side];
     let mut new_coefficients = vec![0i32; side * side];
-    let log2 = black_box(log2);
+    let (log2, qp) = (black_box(log2), black_box(26));
     let mut sum = 0u64;
     for _ in 0..rounds {
         for place in 0..CALLS {
-            let number = if is_inverse {
-                if by_hand {
-                    hand::inverse::<true>(&coefficients, log2, &mut new_residual);
-                } else {
-                    inverse(&coefficients, log2, &mut new_residual);
+            let mut is_some = false;
+            match (transform, by_hand) {
+                (Transform::Inverse, true) => {
+                    hand::inverse::<true>(&coefficients, log2, &mut new_residual)
                 }
-                u32::from(new_residual[place].unsigned_abs())
-            } else {
-                if by_hand {
-                    hand::forward(&residual, log2, &mut new_coefficients);
-                } else {
-                    forward(&residual, log2, &mut new_coefficients);
+                (Transform::Inverse, false) => inverse(&coefficients, log2, &mut new_residual),
+                (Transform::Forward, true) => hand::forward(&residual, log2, &mut new_coefficients),
+                (Transform::Forward, false) => forward(&residual, log2, &mut new_coefficients),
+                (Transform::Quantise, true) => {
+                    is_some = hand::quantise(&coefficients, log2, qp, true, &mut new_residual)
                 }
-                new_coefficients[place].unsigned_abs()
+                (Transform::Quantise, false) => {
+                    is_some = quantise(&coefficients, log2, qp, true, &mut new_residual)
+                }
+                (Transform::Scale, true) => {
+                    hand::scale(&residual, log2, qp, &mut new_coefficients)
+                }
+                (Transform::Scale, false) => scale(&residual, log2, qp, &mut new_coefficients),
+            }
+            let number = match transform {
+                Transform::Inverse | Transform::Quantise => {
+                    u32::from(new_residual[place].unsigned_abs())
+                }
+                _ => new_coefficients[place].unsigned_abs(),
             };
-            sum = sum.wrapping_add(u64::from(number));
+            sum = sum.wrapping_add(u64::from(number) + u64::from(is_some));
         }
     }
     sum
@@ -1045,9 +1100,9 @@ fn main() -> ExitCode {
             println!("{known} {}", checksum_of_inter(luma, size, mv, rounds));
         }
     }
-    for (known, is_inverse, log2, kept) in TRANSFORM_KERNELS {
+    for (known, transform, log2, kept) in TRANSFORM_KERNELS {
         if name == "all" || name == known {
-            let sum = checksum_of_transforms(is_inverse, log2, kept, by_hand, rounds);
+            let sum = checksum_of_transforms(transform, log2, kept, by_hand, rounds);
             println!("{known} {sum}");
         }
     }

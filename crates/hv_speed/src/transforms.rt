@@ -2,7 +2,7 @@
 ghost use Rattle.std.specs.Prelude.{◌≡◌, ◌^◌, ◌<◌, ◌≤◌, IfOk, vec_len, length};
 ghost use Rattle.hv_transform.specs.Ranges.{Have16Bits, AreDifferences};
 
-use hv_transform::{forward, inverse, scale};
+use hv_transform::{forward, inverse, quantise, scale};
 use std::alloc::{AllocError, Global};
 
 /// A block of residuals, one of coefficients, and room for what a transform makes of them.
@@ -22,6 +22,9 @@ pub struct Block {
     ghost differences: { AreDifferences residual.items },
     ghost range: { Have16Bits coefficients.items },
 }
+
+/// The quantiser of every block.
+const QUANTISER: u8 = 26;
 
 /// Writes differences from a generator of numbers.
 fn put_noise(out: &mut [i16])
@@ -45,6 +48,24 @@ fn keep_first(block: &mut [i16], columns: usize, kept: usize)
     }
 }
 
+/// The size of a number, or 0 where there is none.
+fn size_at(numbers: &[i32], place: usize) -> u64 {
+    match numbers.get(place) {
+        Some(number) => u64::from(number.unsigned_abs()),
+        None => 0,
+    }
+}
+
+/// The same, of a number of 16 bits.
+fn short_size_at(numbers: &[i16], place: usize) -> u64
+    ensures { result ≤ 32768 }
+{
+    match numbers.get(place) {
+        Some(number) => u64::from(number.unsigned_abs()),
+        None => 0,
+    }
+}
+
 impl Block {
     /// A block of 2^log2 columns, which has `size` members. The levels behind the first columns and
     /// rows are 0: `kept` of each have others.
@@ -61,7 +82,7 @@ impl Block {
         put_noise(&mut residual);
         put_noise(&mut levels);
         keep_first(&mut levels, 1 << log2, kept);
-        scale(&levels, log2, 26, &mut coefficients);
+        scale(&levels, log2, QUANTISER, &mut coefficients);
         Ok(Block {
             log2,
             residual,
@@ -84,11 +105,15 @@ pub enum TransformKernel {
     Forward8,
     Forward16,
     Forward32,
+    Quantise8,
+    Quantise32,
+    Scale8,
+    Scale32,
 }
 
 impl TransformKernel {
     /// All kernels, in the order in which they are run.
-    pub const ALL: [TransformKernel; 10] = [
+    pub const ALL: [TransformKernel; 14] = [
         TransformKernel::Inverse8,
         TransformKernel::Inverse16,
         TransformKernel::Inverse32,
@@ -99,6 +124,10 @@ impl TransformKernel {
         TransformKernel::Forward8,
         TransformKernel::Forward16,
         TransformKernel::Forward32,
+        TransformKernel::Quantise8,
+        TransformKernel::Quantise32,
+        TransformKernel::Scale8,
+        TransformKernel::Scale32,
     ];
 
     /// The word by which a user asks for it.
@@ -114,6 +143,10 @@ impl TransformKernel {
             TransformKernel::Forward8 => "forward_8",
             TransformKernel::Forward16 => "forward_16",
             TransformKernel::Forward32 => "forward_32",
+            TransformKernel::Quantise8 => "quantise_8",
+            TransformKernel::Quantise32 => "quantise_32",
+            TransformKernel::Scale8 => "scale_8",
+            TransformKernel::Scale32 => "scale_32",
         }
     }
 
@@ -130,13 +163,17 @@ impl TransformKernel {
     /// The block that the kernel goes over.
     pub fn block(self, alloc: Global) -> Result<Block, AllocError> {
         match self {
-            TransformKernel::Inverse8 | TransformKernel::Forward8 => Block::new(alloc, 3, 64, 8),
+            TransformKernel::Inverse8
+            | TransformKernel::Forward8
+            | TransformKernel::Quantise8
+            | TransformKernel::Scale8 => Block::new(alloc, 3, 64, 8),
             TransformKernel::Inverse16 | TransformKernel::Forward16 => Block::new(
                 alloc, 4, 256, 16,
             ),
-            TransformKernel::Inverse32 | TransformKernel::Forward32 => Block::new(
-                alloc, 5, 1024, 32,
-            ),
+            TransformKernel::Inverse32
+            | TransformKernel::Forward32
+            | TransformKernel::Quantise32
+            | TransformKernel::Scale32 => Block::new(alloc, 5, 1024, 32),
             TransformKernel::InverseCorner16 => Block::new(alloc, 4, 256, 8),
             TransformKernel::InverseCorner32 => Block::new(alloc, 5, 1024, 8),
             TransformKernel::InverseFirst16 => Block::new(alloc, 4, 256, 1),
@@ -144,24 +181,31 @@ impl TransformKernel {
         }
     }
 
-    /// Runs the kernel once, and gives a number of what it made. The place chooses the number.
+    /// Runs the kernel once, and gives a number of what it made. The place chooses the number. The
+    /// levels that are scaled are the residuals.
     pub fn run(self, block: &mut Block, place: usize) -> u64
         requires { place < 64 }
     {
         match self {
             TransformKernel::Forward8 | TransformKernel::Forward16 | TransformKernel::Forward32 => {
                 forward(&block.residual, block.log2, &mut block.new_coefficients);
-                match block.new_coefficients.get(place) {
-                    Some(number) => u64::from(number.unsigned_abs()),
-                    None => 0,
-                }
+                size_at(&block.new_coefficients, place)
+            }
+            TransformKernel::Scale8 | TransformKernel::Scale32 => {
+                scale(
+                    &block.residual, block.log2, QUANTISER, &mut block.new_coefficients,
+                );
+                size_at(&block.new_coefficients, place)
+            }
+            TransformKernel::Quantise8 | TransformKernel::Quantise32 => {
+                let is_some = quantise(
+                    &block.coefficients, block.log2, QUANTISER, true, &mut block.new_residual,
+                );
+                short_size_at(&block.new_residual, place) + u64::from(is_some)
             }
             _ => {
                 inverse(&block.coefficients, block.log2, &mut block.new_residual);
-                match block.new_residual.get(place) {
-                    Some(number) => u64::from(number.unsigned_abs()),
-                    None => 0,
-                }
+                short_size_at(&block.new_residual, place)
             }
         }
     }

@@ -5,7 +5,6 @@ use Rattle.std.proofs.lemmas.Int.{ints, unsigned_abs-mul}
 use Rattle.std.proofs.Math.IntN.{*ℤ_comm, *ℤ-negsuc, neg_ℤ-neg_ℤ}
 use Rattle.std.specs.Prelude.{◌-ℤ◌, neg_ℤ}
 use Rattle.std.specs.Ordering.{int_eq}
-use Rattle.std.proofs.lemmas.Bool.Decides.{Decides-int_eq}
 use Rattle.std.proofs.lemmas.Nat.{pow-add}
 use Rattle.hv_tables.proofs.ComputedLemmas.{equal_numbers}
 use Rattle.hv_tables.specs.TransformMatrix.{transMatrix}

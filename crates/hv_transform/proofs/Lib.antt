@@ -20,3 +20,5 @@ pub mod OrderLemmas
 pub mod MeanLemmas
 pub mod InverseLaneLemmas
 pub mod CornerLemmas
+pub mod LevelLemmas
+pub mod ScaleLemmas

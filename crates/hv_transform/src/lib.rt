@@ -14,6 +14,7 @@ mod inverse_transform;
 mod lane_weights;
 mod lanes;
 mod laws;
+mod level_lanes;
 mod rows;
 mod scaling;
 #[cfg(test)]

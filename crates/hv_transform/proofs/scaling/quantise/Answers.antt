@@ -9,8 +9,24 @@ use Rattle.hv_sample_model.specs.Quantisation.{quantised, with_sign_of, offset_o
 use Rattle.hv_tables.specs.Quantisers.{quantisation_factor}
 use Rattle.hv_transform.proofs.ListLemmas.{map_is, list_any-set}
 use Rattle.hv_transform.specs.Ranges.{is_other_than_0}
+use Rattle.hv_transform.specs.Levels.{level_by}
+use Rattle.hv_transform.proofs.LevelLemmas.{eight_more}
 use Rattle.hv_transform.proofs.PlaceLemmas.{HasFirst-set}
 use Rattle.hv_transform.proofs.scaling.quantise.Goals as goal
+
+pub loop-g-preserved : goal.loop-g-preserved
+loop-g-preserved c =
+    let by : ℕ → ℕ → ℕ → ℤ → ℤ = λ f o s z. level_by f o s z in
+    let shift : c.from-shift.result ≡ quantisation_shift c.args.log2 c.args.qp = omega arith in
+    let factor : c.from-factor.result ≡ quantisation_factor c.args.qp = omega (arith, c.quantisation_factor.ensures.value) in
+    let kind : ℕ = offset_of_kind c.args.intra in
+    eight_more c.loop-g.g _ is_other_than_0 (by c.from-factor.result c.offset_of-offset.result c.from-shift.result) (quantised c.args.log2 c.args.qp c.args.intra) c.args.coefficients.now c.loop-g.out c.quantise_eight-is_other.new.out c.loop-g.is_some c.quantise_eight-is_other.result
+    (omega arith) (omega arith)
+    (λ z.
+    ap (λ f. by f c.offset_of-offset.result c.from-shift.result z) factor ∙
+    ap (λ o. by (quantisation_factor c.args.qp) o c.from-shift.result z) c.offset_of-offset.ensures.value ∙
+    ap (λ s. by (quantisation_factor c.args.qp) (kind * 2 ^ (s - 9)) s z) shift)
+    c.loop-g.invariant c.quantise_eight-is_other.ensures.value c.quantise_eight-is_other.ensures.some
 
 pub loop-i-preserved : goal.loop-i-preserved
 loop-i-preserved c =

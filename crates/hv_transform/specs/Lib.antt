@@ -3,3 +3,4 @@ pub mod Ranges
 pub mod Levels
 pub mod Passes
 pub mod Lanes
+pub mod Forward

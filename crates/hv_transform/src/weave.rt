@@ -43,6 +43,18 @@ static ORDER_32: [[usize; 2]; 16] = [
     [16, 24],
 ];
 
+/// The pairs of rows of 8 as they stand.
+static RISING_8: [[usize; 2]; 4] = [[0, 1], [2, 3], [4, 5], [6, 7]];
+
+/// The rows of 8 in pairs, as they stand.
+#[inline(always)]
+pub(crate) fn rising_order_of_8() -> &'static [[usize; 2]; 4]
+    ensures order { IsOrder 0 4 result.now }
+    ensures pairs { ArePairs 4 8 result.now }
+{
+    &RISING_8
+}
+
 /// Which rows of 8 stand in pairs.
 #[inline(always)]
 pub(crate) fn order_of_8() -> &'static [[usize; 2]; 4]
@@ -100,7 +112,7 @@ pub(crate) fn narrow(numbers: &[i32], out: &mut [i16])
 
 /// Eight numbers of each of two rows, in turn.
 #[inline(always)]
-fn weave_eight(first: &[i16], second: &[i16], out: &mut [i16])
+pub(crate) fn weave_eight(first: &[i16], second: &[i16], out: &mut [i16])
     requires first { length first.now ≡ 8 }
     requires second { length second.now ≡ 8 }
     requires first_numbers { Numbers first.now }

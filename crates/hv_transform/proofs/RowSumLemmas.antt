@@ -241,3 +241,49 @@ lines_more log2 y s k block line out new e room long row old =
     row m below ∙
     row_mean_same log2 s m (at line) (line_of n block y) (λ x inside. ap (λ v. at v x) e ∙ at_part (y * n) n x block inside) ∙
     sym (ap₂ (λ y u. row_mean log2 (line_of n block y) s u) (div-mul-add y n m below) (mod-mul-add y n m below)))
+
+-- a row of 32, in four eights
+pub outer_sum : (f : ℕ → ℤ) (x : ℕ) → x < 8 → f (0 + x) +ℤ f (24 + (7 - x)) ≡ folded_sum 16 f x
+outer_sum f x below =
+    let here : 0 + x ≡ x = omega arith in
+    let there : 24 + (7 - x) ≡ 31 - x = omega (arith, below) in
+    ap₂ (λ a b. f a +ℤ f b) here there
+
+pub inner_sum : (f : ℕ → ℤ) (x : ℕ) → x < 8 → f (8 + x) +ℤ f (16 + (7 - x)) ≡ folded_sum 16 f (8 + x)
+inner_sum f x below =
+    let there : 16 + (7 - x) ≡ 31 - (8 + x) = omega (arith, below) in
+    ap (λ b. f (8 + x) +ℤ f b) there
+
+pub outer_difference : (f : ℕ → ℤ) (x : ℕ) → x < 8 → f (0 + x) -ℤ f (24 + (7 - x)) ≡ folded_difference 16 f x
+outer_difference f x below =
+    let here : 0 + x ≡ x = omega arith in
+    let there : 24 + (7 - x) ≡ 31 - x = omega (arith, below) in
+    ap₂ (λ a b. f a -ℤ f b) here there
+
+pub inner_difference : (f : ℕ → ℤ) (x : ℕ) → x < 8 → f (8 + x) -ℤ f (16 + (7 - x)) ≡ folded_difference 16 f (8 + x)
+inner_difference f x below =
+    let there : 16 + (7 - x) ≡ 31 - (8 + x) = omega (arith, below) in
+    ap (λ b. f (8 + x) -ℤ f b) there
+
+pub sums_in_eights : (f c d : ℕ → ℤ) (i : ℕ) → ((x : ℕ) → x < 8 → c x ≡ folded_sum 16 f x) → ((x : ℕ) → x < 8 → d x ≡ folded_sum 16 f (8 + x)) → i < 16 → in_eights c d i ≡ folded_sum 16 f i
+sums_in_eights f c d i first second below =
+    ⊎_elim
+    (λ (less : i < 8). first_eight c d i less ∙ first i less)
+    (λ (more : 8 ≤ i).
+    let here : 8 + (i - 8) ≡ i = omega (arith, more) in
+    second_eight c d i more ∙ second (i - 8) (omega (arith, below, more)) ∙ ap (folded_sum 16 f) here)
+    (cases_lt i 8)
+
+-- four places of the odd frequencies of a row of 32
+pub odd_lanes_of_32 : (g i : ℕ) (table : List (List ℤ)) (f : ℕ → ℤ) (v : List ℤ) → g < 4
+    → HasOddRow 5 g 0 (table_row table i) → HasOddRow 5 g 1 (table_row table (i + 1)) → HasOddRow 5 g 2 (table_row table (i + 2)) → HasOddRow 5 g 3 (table_row table (i + 3))
+    → FourLanes (sixteen_sums table i (λ x. f (0 + x) -ℤ f (24 + (7 - x))) (λ x. f (8 + x) -ℤ f (16 + (7 - x)))) v → FourLanes (λ j. row_sum 5 f (2 * (4 * g + j) + 1)) v
+odd_lanes_of_32 g i table f v few has₀ has₁ has₂ has₃ h =
+    let c : ℕ → ℤ = λ x. f (0 + x) -ℤ f (24 + (7 - x)) in
+    let d : ℕ → ℤ = λ x. f (8 + x) -ℤ f (16 + (7 - x)) in
+    same_lanes (sixteen_sums table i c d) (λ j. row_sum 5 f (2 * (4 * g + j) + 1)) v
+    (λ j below. odd_sixteen g i j table f c d few below has₀ has₁ has₂ has₃ (outer_difference f) (inner_difference f)) h
+
+-- the second half of the odd frequencies
+pub later_lanes : (f : ℕ → ℤ) (m n : ℕ) (v : List ℤ) → ((j : ℕ) → m + j ≡ n + j) → FourLanes (λ j. f (m + j)) v → FourLanes (λ j. f (n + j)) v
+later_lanes f m n v e h = same_lanes (λ j. f (m + j)) (λ j. f (n + j)) v (λ j below. ap f (e j)) h

@@ -88,6 +88,54 @@ fn sums_of_8<const W: usize, const P: usize>(
     )
 }
 
+/// The same of sixteen.
+#[inline(always)]
+fn sums_of_16<const W: usize, const P: usize>(
+    rows: &[[i16; W]; P],
+    p: usize,
+    i: usize,
+    entries: &[i16],
+) -> i32x4
+    requires rows { p + 8 ≤ P }
+    requires columns { 8 * i + 8 ≤ W }
+    requires w_most { W ≤ 128 }
+    requires p_most { P ≤ 128 }
+    requires sixteen { length entries.now ≡ 16 }
+    requires entries { Numbers entries.now }
+    requires numbers { (j r : ℕ) → j < 4 → r < 16 →
+        FitsSigned w16 (in_pairs rows.now (4 * i + j) (2 * p + r)) }
+    ensures { FourLanes (column_part 16 entries.now rows.now i (2 * p)) result }
+{
+    sums(
+        sums_of_8(rows, p, i, &entries[0..8]),
+        sums_of_8(rows, p + 4, i, &entries[8..16]),
+    )
+}
+
+/// The same of thirty-two.
+#[inline(always)]
+fn sums_of_32<const W: usize, const P: usize>(
+    rows: &[[i16; W]; P],
+    p: usize,
+    i: usize,
+    entries: &[i16],
+) -> i32x4
+    requires rows { p + 16 ≤ P }
+    requires columns { 8 * i + 8 ≤ W }
+    requires w_most { W ≤ 128 }
+    requires p_most { P ≤ 128 }
+    requires all { length entries.now ≡ 32 }
+    requires entries { Numbers entries.now }
+    requires numbers { (j r : ℕ) → j < 4 → r < 32 →
+        FitsSigned w16 (in_pairs rows.now (4 * i + j) (2 * p + r)) }
+    ensures { FourLanes (column_part 32 entries.now rows.now i (2 * p)) result }
+{
+    sums(
+        sums_of_16(rows, p, i, &entries[0..16]),
+        sums_of_16(rows, p + 8, i, &entries[16..32]),
+    )
+}
+
 /// Writes the means of four lanes, by 2^shift.
 #[inline(always)]
 fn put_four(lanes: i32x4, shift: u32, out: &mut [i32])
@@ -171,4 +219,152 @@ pub(crate) fn columns_of_8(
     put_row_of_8(rows, &matrix[5], shift, &mut out[40..48]);
     put_row_of_8(rows, &matrix[6], shift, &mut out[48..56]);
     put_row_of_8(rows, &matrix[7], shift, &mut out[56..64]);
+}
+
+/// The same of 16 numbers.
+#[inline(always)]
+fn put_four_of_16<const W: usize>(
+    rows: &[[i16; W]; 8],
+    i: usize,
+    entries: &[i16; 16],
+    shift: u32,
+    out: &mut [i32],
+)
+    requires columns { 8 * i + 8 ≤ W }
+    requires w_most { W ≤ 128 }
+    requires numbers { (u r : ℕ) → u < 4 * i + 4 → r < 16 →
+        FitsSigned w16 (in_pairs rows.now u r) }
+    requires entries { Numbers entries.now }
+    requires light { IsLight 16 entries.now }
+    requires some { 0 < shift }
+    requires shift_most { shift ≤ 12 }
+    requires room { length out.old ≡ 4 }
+    ensures count { length out.new ≡ 4 }
+    ensures each { (j : ℕ) → j < 4 →
+        at out.new j ≡ entry_mean 16 entries.now rows.now shift (4 * i + j) }
+{
+    put_four(
+        sums_of_16(rows, 0, i, &entries[..]),
+        shift,
+        out,
+    );
+}
+
+/// The same of 32 numbers.
+#[inline(always)]
+fn put_four_of_32<const W: usize>(
+    rows: &[[i16; W]; 16],
+    i: usize,
+    entries: &[i16; 32],
+    shift: u32,
+    out: &mut [i32],
+)
+    requires columns { 8 * i + 8 ≤ W }
+    requires w_most { W ≤ 128 }
+    requires numbers { (u r : ℕ) → u < 4 * i + 4 → r < 32 →
+        FitsSigned w16 (in_pairs rows.now u r) }
+    requires entries { Numbers entries.now }
+    requires light { IsLight 32 entries.now }
+    requires some { 0 < shift }
+    requires shift_most { shift ≤ 12 }
+    requires room { length out.old ≡ 4 }
+    ensures count { length out.new ≡ 4 }
+    ensures each { (j : ℕ) → j < 4 →
+        at out.new j ≡ entry_mean 32 entries.now rows.now shift (4 * i + j) }
+{
+    put_four(
+        sums_of_32(rows, 0, i, &entries[..]),
+        shift,
+        out,
+    );
+}
+
+/// The means of the sums over all columns of 16, at one frequency.
+///
+/// It isn't inlined and has no loop, since the compiler would widen the numbers outside the loop over
+/// the frequencies, and the multiplication of pairs would be lost.
+#[inline(never)]
+fn put_row_of_16(rows: &[[i16; 40]; 8], entries: &[i16; 16], shift: u32, out: &mut [i32])
+    requires numbers { (u r : ℕ) → u < 16 → r < 16 →
+        FitsSigned w16 (in_pairs rows.now u r) }
+    requires entries { Numbers entries.now }
+    requires light { IsLight 16 entries.now }
+    requires some { 0 < shift }
+    requires shift_most { shift ≤ 12 }
+    requires room { length out.old ≡ 16 }
+    ensures { HasFirst 16 (entry_mean 16 entries.now rows.now shift) out.new }
+{
+    put_four_of_16(rows, 0, entries, shift, &mut out[0..4]);
+    put_four_of_16(rows, 1, entries, shift, &mut out[4..8]);
+    put_four_of_16(rows, 2, entries, shift, &mut out[8..12]);
+    put_four_of_16(rows, 3, entries, shift, &mut out[12..16]);
+}
+
+/// The means of the sums over all columns of 32, at one frequency.
+///
+/// It isn't inlined and has no loop, since the compiler would widen the numbers outside the loop over
+/// the frequencies, and the multiplication of pairs would be lost.
+#[inline(never)]
+fn put_row_of_32(rows: &[[i16; 72]; 16], entries: &[i16; 32], shift: u32, out: &mut [i32])
+    requires numbers { (u r : ℕ) → u < 32 → r < 32 →
+        FitsSigned w16 (in_pairs rows.now u r) }
+    requires entries { Numbers entries.now }
+    requires light { IsLight 32 entries.now }
+    requires some { 0 < shift }
+    requires shift_most { shift ≤ 12 }
+    requires room { length out.old ≡ 32 }
+    ensures { HasFirst 32 (entry_mean 32 entries.now rows.now shift) out.new }
+{
+    put_four_of_32(rows, 0, entries, shift, &mut out[0..4]);
+    put_four_of_32(rows, 1, entries, shift, &mut out[4..8]);
+    put_four_of_32(rows, 2, entries, shift, &mut out[8..12]);
+    put_four_of_32(rows, 3, entries, shift, &mut out[12..16]);
+    put_four_of_32(rows, 4, entries, shift, &mut out[16..20]);
+    put_four_of_32(rows, 5, entries, shift, &mut out[20..24]);
+    put_four_of_32(rows, 6, entries, shift, &mut out[24..28]);
+    put_four_of_32(rows, 7, entries, shift, &mut out[28..32]);
+}
+
+/// A pass over 16 columns, as that over 8.
+#[inline(always)]
+pub(crate) fn columns_of_16(
+    rows: &[[i16; 40]; 8],
+    matrix: &[[i16; 16]; 16],
+    shift: u32,
+    out: &mut [i32],
+)
+    requires numbers { (u r : ℕ) → u < 16 → r < 16 →
+        FitsSigned w16 (in_pairs rows.now u r) }
+    requires entries { HasNumbers matrix.now }
+    requires light { (v : ℕ) → v < 16 → IsLight 16 (table_row matrix.now v) }
+    requires some { 0 < shift }
+    requires shift_most { shift ≤ 12 }
+    requires room { length out.old ≡ 256 }
+    ensures { HasFirst 256 (columns_mean 16 matrix.now rows.now shift) out.new }
+{
+    for v in 0..16 {
+        put_row_of_16(rows, &matrix[v], shift, &mut out[v * 16..v * 16 + 16]);
+    }
+}
+
+/// A pass over 32 columns, as that over 8.
+#[inline(always)]
+pub(crate) fn columns_of_32(
+    rows: &[[i16; 72]; 16],
+    matrix: &[[i16; 32]; 32],
+    shift: u32,
+    out: &mut [i32],
+)
+    requires numbers { (u r : ℕ) → u < 32 → r < 32 →
+        FitsSigned w16 (in_pairs rows.now u r) }
+    requires entries { HasNumbers matrix.now }
+    requires light { (v : ℕ) → v < 32 → IsLight 32 (table_row matrix.now v) }
+    requires some { 0 < shift }
+    requires shift_most { shift ≤ 12 }
+    requires room { length out.old ≡ 1024 }
+    ensures { HasFirst 1024 (columns_mean 32 matrix.now rows.now shift) out.new }
+{
+    for v in 0..32 {
+        put_row_of_32(rows, &matrix[v], shift, &mut out[v * 32..v * 32 + 32]);
+    }
 }

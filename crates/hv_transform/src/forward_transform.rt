@@ -7,9 +7,9 @@ ghost use Rattle.hv_transform.specs.Passes.{HasFirst, AreWithin, WeighAtMost, ta
 ghost use Rattle.hv_transform.specs.Ranges.{Have16Bits, AreDifferences};
 
 use crate::dot::{mean, narrow_mean};
-use crate::forward_lanes::forward_8;
+use crate::forward_lanes::{forward_8, forward_16, forward_32};
 use crate::rows::row;
-use hv_tables::{matrix_rows_4, matrix_rows_16, matrix_rows_32};
+use hv_tables::matrix_rows_4;
 
 /// The first pass: sums over the rows. Row u of `out` has frequency u of each row.
 #[inline(always)]
@@ -106,7 +106,7 @@ pub fn forward(residual: &[i16], log2: u8, out: &mut [i32])
     match log2 {
         2 => forward_of::<4, 16>(matrix_rows_4(), residual, log2, out),
         3 => forward_8(residual, out),
-        4 => forward_of::<16, 256>(matrix_rows_16(), residual, log2, out),
-        _ => forward_of::<32, 1024>(matrix_rows_32(), residual, log2, out),
+        4 => forward_16(residual, out),
+        _ => forward_32(residual, out),
     }
 }

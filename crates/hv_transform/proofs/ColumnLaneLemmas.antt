@@ -1,5 +1,5 @@
 -- Sums over columns, four side by side, from their lanes.
-use Rattle.std.proofs.Common.{◌≡◌, ℕ, zero, suc, ◌+◌, ◌-◌, ◌*◌, ◌/◌, ◌%◌, ◌^◌, ◌<◌, ◌≤◌, List, [], ◌∷◌, ◌++◌, ℤ, pos, ◌+ℤ◌, ◌*ℤ◌, map, refl, arith, ap, ap₂, ◌∙◌, sym, subst, length, take, drop, All}
+use Rattle.std.proofs.Common.{◌≡◌, ℕ, ◌+◌, ◌-◌, ◌*◌, ◌/◌, ◌%◌, ◌<◌, ◌≤◌, List, ◌++◌, ℤ, pos, ◌+ℤ◌, ◌*ℤ◌, map, arith, ap, ap₂, ◌∙◌, sym, subst, length, take, drop}
 use Rattle.std.specs.Int.{int_wrap}
 use Rattle.std.specs.Int.RustNames.{unsigned_abs}
 use Rattle.std.proofs.lemmas.Int.{ints}
@@ -12,7 +12,7 @@ use mathlib.Core.Logic.{⊎_elim}
 use lib.ListN.{get_or}
 use borrow.Rule.Slice.PartMut.{put_mid}
 use mir.Syntax.{w16, w32}
-use mir.Val.{of_z, to_z, SFits}
+use mir.Val.{of_z, SFits}
 use Rattle.hv_sample_model.specs.Blocks.{sum_of}
 use Rattle.hv_sample_model.specs.Quantisation.{rounded}
 use Rattle.hv_transform.specs.Passes.{HasFirst, AreWithin, table_row}

@@ -9,7 +9,7 @@ use Rattle.hv_tables.specs.TransformMatrix.{transMatrix}
 use Rattle.hv_sample_model.specs.Blocks.{sum_of}
 use Rattle.hv_transform.specs.Forward.{row_sum, folded_sum, folded_difference}
 use Rattle.hv_transform.proofs.SumLemmas.{sum_of_same}
-use Rattle.hv_transform.proofs.HalfLemmas.{Halved, halved, laws, neg_times, twice}
+use Rattle.hv_transform.proofs.HalfLemmas.{halved, laws, neg_times, twice}
 use Rattle.hv_transform.proofs.LaneHalfLemmas.{append_sum}
 use Rattle.hv_transform.proofs.MeanLemmas.{size_of_products}
 use Rattle.hv_transform.proofs.WeightLemmas.{light}

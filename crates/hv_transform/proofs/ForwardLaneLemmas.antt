@@ -3,7 +3,6 @@ use Rattle.std.proofs.Common.{◌≡◌, ℕ, ◌+◌, ◌-◌, ◌*◌, ◌/◌
 use Rattle.std.specs.Int.RustNames.{unsigned_abs}
 use Rattle.std.proofs.lemmas.Int.{ints, clamps}
 use Rattle.std.proofs.lemmas.Nat.{pow_pos}
-use Rattle.std.proofs.Math.Nat.{mul-le-mul_right}
 use mir.Syntax.{w16}
 use mir.Val.{SFits}
 use Rattle.hv_tables.specs.Tables.{HasEntries}
@@ -17,8 +16,6 @@ use Rattle.hv_transform.specs.Forward.{row_sum, line_of, rows_mean, entry_sum, c
 use Rattle.hv_transform.proofs.SumLemmas.{sum_of_same}
 use Rattle.hv_transform.proofs.NumberLemmas.{size_of_rounded}
 use Rattle.hv_transform.proofs.SizeLemmas.{shifts_suffice}
-use Rattle.hv_transform.proofs.WeightLemmas.{rows_are_light, light}
-use Rattle.hv_transform.proofs.MeanLemmas.{size_of_products}
 use Rattle.hv_transform.proofs.InverseLaneLemmas.{clip_fits, numbers_by}
 use Rattle.hv_transform.proofs.PlaceLemmas.{place_inside, row_of_place, column_of_place}
 use Rattle.hv_transform.proofs.SquareLemmas.{square_is, row_below, column_below}

@@ -1,8 +1,8 @@
 -- The sums over rows, from their lanes.
-use Rattle.std.proofs.Common.{◌≡◌, ℕ, zero, suc, ◌+◌, ◌-◌, ◌*◌, ◌/◌, ◌%◌, ◌^◌, ◌<◌, ◌≤◌, List, ◌++◌, ℤ, pos, ◌+ℤ◌, ◌*ℤ◌, map, refl, arith, ap, ap₂, ◌∙◌, sym, subst, length, take, drop, All, true, false, nat_eq, nat_lt}
+use Rattle.std.proofs.Common.{◌≡◌, ℕ, ◌+◌, ◌-◌, ◌*◌, ◌/◌, ◌%◌, ◌^◌, ◌<◌, ◌≤◌, List, ◌++◌, ℤ, pos, ◌+ℤ◌, ◌*ℤ◌, map, refl, arith, ap, ap₂, ◌∙◌, sym, subst, length, take, drop, All, true, false, nat_lt}
 use Rattle.std.specs.Prelude.{◌-ℤ◌}
 use Rattle.std.specs.Int.RustNames.{unsigned_abs}
-use Rattle.std.proofs.lemmas.Int.{ints, int_wrap_fits, fits_signed_from_abs}
+use Rattle.std.proofs.lemmas.Int.{int_wrap_fits, fits_signed_from_abs}
 use Rattle.std.proofs.lemmas.Bool.{cases_lt}
 use Rattle.std.proofs.lemmas.Bool.Decides.{nat_tests}
 use Rattle.std.proofs.lemmas.List.{get_or_append_left, get_or-append_right, get_or-map, length-map, length-take-le, length-drop}
@@ -10,10 +10,8 @@ use Rattle.std.proofs.Common.{length-append}
 use Rattle.std.proofs.lemmas.List.Elements.{All-from_get_or}
 use mathlib.Core.Logic.{⊎_elim}
 use borrow.Rule.Slice.PartMut.{put_mid}
-use mir.Syntax.{w16, w32}
-use mir.Val.{SFits}
+use mir.Syntax.{w32}
 use Rattle.hv_tables.specs.TransformMatrix.{transMatrix}
-use Rattle.hv_sample_model.specs.Blocks.{sum_of}
 use Rattle.hv_lemmas.specs.Clipping.{clip16}
 use Rattle.hv_sample_model.specs.Quantisation.{rounded}
 use Rattle.hv_transform.specs.Passes.{HasFirst, AreWithin, table_row}
@@ -22,8 +20,8 @@ use Rattle.hv_transform.specs.Forward.{EightLanes, HasFour, HasOddRow, HasRowWei
 use Rattle.hv_transform.proofs.SumLemmas.{sum_of_same}
 use Rattle.hv_transform.proofs.LaneHalfLemmas.{chunk, eight_sum, sixteen_sum}
 use Rattle.hv_transform.proofs.FourLaneLemmas.{kept_lanes, kept_four, same_lanes}
-use Rattle.hv_transform.proofs.LaneStepLemmas.{passed, kept}
-use Rattle.hv_transform.proofs.RowLaneLemmas.{kept_eight, numbers_of_eight}
+use Rattle.hv_transform.proofs.LaneStepLemmas.{passed}
+use Rattle.hv_transform.proofs.RowLaneLemmas.{numbers_of_eight}
 use Rattle.hv_transform.proofs.PartLemmas.{HasFirst-put, at_part}
 use Rattle.hv_transform.proofs.InverseLaneLemmas.{numbers_by, clip_fits}
 use Rattle.hv_transform.proofs.FoldLemmas.{even_frequency, odd_frequency, row_sum_small}

@@ -6,7 +6,7 @@ use Rattle.hv_sample_model.specs.Blocks.{sum_of, total_of}
 use Rattle.hv_lemmas.specs.Clipping.{clip16}
 use Rattle.hv_sample_model.specs.Quantisation.{rounded}
 use Rattle.hv_transform.specs.Passes.{table_row}
-use Rattle.hv_transform.specs.Lanes.{at, weight, Numbers, FourLanes, in_pairs}
+use Rattle.hv_transform.specs.Lanes.{at, weight, Numbers, in_pairs}
 
 -- the sum over a row of numbers, at frequency u
 abbrev pub row_sum : ℕ → (ℕ → ℤ) → ℕ → ℤ

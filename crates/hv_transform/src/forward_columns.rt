@@ -57,11 +57,7 @@ fn sums_of_4<const W: usize, const P: usize>(
 {
     let first = &rows[p][..];
     let second = &rows[p + 1][..];
-    entry_quads(
-        &first[8 * i..8 * i + 8],
-        &second[8 * i..8 * i + 8],
-        entries,
-    )
+    entry_quads(&first[8 * i..8 * i + 8], &second[8 * i..8 * i + 8], entries)
 }
 
 /// The same of eight entries and numbers.
@@ -170,11 +166,7 @@ fn put_four_of_8<const W: usize>(
     ensures count { length out.new ≡ 4 }
     ensures each { (j : ℕ) → j < 4 → at out.new j ≡ entry_mean 8 entries.now rows.now shift (4 * i + j) }
 {
-    put_four(
-        sums_of_8(rows, 0, i, &entries[..]),
-        shift,
-        out,
-    );
+    put_four(sums_of_8(rows, 0, i, &entries[..]), shift, out);
 }
 
 /// The means of the sums over all columns of 8, at one frequency.
@@ -243,11 +235,7 @@ fn put_four_of_16<const W: usize>(
     ensures each { (j : ℕ) → j < 4 →
         at out.new j ≡ entry_mean 16 entries.now rows.now shift (4 * i + j) }
 {
-    put_four(
-        sums_of_16(rows, 0, i, &entries[..]),
-        shift,
-        out,
-    );
+    put_four(sums_of_16(rows, 0, i, &entries[..]), shift, out);
 }
 
 /// The same of 32 numbers.
@@ -272,11 +260,7 @@ fn put_four_of_32<const W: usize>(
     ensures each { (j : ℕ) → j < 4 →
         at out.new j ≡ entry_mean 32 entries.now rows.now shift (4 * i + j) }
 {
-    put_four(
-        sums_of_32(rows, 0, i, &entries[..]),
-        shift,
-        out,
-    );
+    put_four(sums_of_32(rows, 0, i, &entries[..]), shift, out);
 }
 
 /// The means of the sums over all columns of 16, at one frequency.

@@ -66,7 +66,10 @@ fn rows_of_16(block: &[i16], table: &[[i16; 16]; 7], shift: u32, out: &mut [i16]
 {
     for y in 0..16 {
         put_line_of_16(
-            &block[y * 16..y * 16 + 16], table, shift, &mut out[y * 16..y * 16 + 16],
+            &block[y * 16..y * 16 + 16],
+            table,
+            shift,
+            &mut out[y * 16..y * 16 + 16],
         );
     }
 }
@@ -100,7 +103,10 @@ fn rows_of_32(block: &[i16], table: &[[i16; 16]; 23], shift: u32, out: &mut [i16
 {
     for y in 0..32 {
         put_line_of_32(
-            &block[y * 32..y * 32 + 32], table, shift, &mut out[y * 32..y * 32 + 32],
+            &block[y * 32..y * 32 + 32],
+            table,
+            shift,
+            &mut out[y * 32..y * 32 + 32],
         );
     }
 }

@@ -1,4 +1,6 @@
 //! The forward transform of the encoder: the rows first, and then the columns.
+//!
+//! Blocks of 4 columns go by dot products of rows, the others in lanes.
 ghost use Rattle.std.specs.Prelude.{◌≡◌, ◌+◌, ◌*◌, ◌^◌, ◌<◌, ◌≤◌, length};
 ghost use Rattle.hv_tables.specs.Tables.{HasEntries};
 ghost use Rattle.hv_tables.specs.TransformMatrix.{transMatrix};
@@ -65,8 +67,6 @@ fn transform_columns<const N: usize>(
 }
 
 /// The coefficients of a block of N columns, which has `AREA` members.
-///
-/// The scratch stands here and not in the function below, which would clear that of every size.
 #[inline(always)]
 fn forward_of<const N: usize, const AREA: usize>(
     rows: &[[i8; N]; N],

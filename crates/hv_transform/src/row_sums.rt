@@ -89,12 +89,7 @@ fn put_row_of_16<const T: usize>(
 
 /// Four sums of the products of sixteen numbers.
 #[inline(always)]
-fn sixteen_products<const T: usize>(
-    x: i16x8,
-    y: i16x8,
-    table: &[[i16; 16]; T],
-    at: usize,
-) -> i32x4
+fn sixteen_products<const T: usize>(x: i16x8, y: i16x8, table: &[[i16; 16]; T], at: usize) -> i32x4
     requires table { at + 4 ≤ T }
     requires t_most { T ≤ 128 }
     requires weights { (i : ℕ) → Numbers (table_row table.now i) }
@@ -109,12 +104,7 @@ fn sixteen_products<const T: usize>(
 
 /// Writes the means of the sums over a row of 8.
 #[inline(always)]
-pub(crate) fn put_line_of_8(
-    line: &[i16],
-    table: &[[i16; 16]; 3],
-    shift: u32,
-    out: &mut [i16],
-)
+pub(crate) fn put_line_of_8(line: &[i16], table: &[[i16; 16]; 3], shift: u32, out: &mut [i16])
     requires eight { length line.now ≡ 8 }
     requires range { AreWithin 8 255 line.now }
     requires weights { HasRowWeights 3 table.now }
@@ -128,12 +118,7 @@ pub(crate) fn put_line_of_8(
 
 /// Writes the means of the sums over a row of 16.
 #[inline(always)]
-pub(crate) fn put_line_of_16(
-    line: &[i16],
-    table: &[[i16; 16]; 7],
-    shift: u32,
-    out: &mut [i16],
-)
+pub(crate) fn put_line_of_16(line: &[i16], table: &[[i16; 16]; 7], shift: u32, out: &mut [i16])
     requires sixteen { length line.now ≡ 16 }
     requires range { AreWithin 16 255 line.now }
     requires weights { HasRowWeights 4 table.now }
@@ -149,12 +134,7 @@ pub(crate) fn put_line_of_16(
 
 /// Writes the means of the sums over a row of 32.
 #[inline(always)]
-pub(crate) fn put_line_of_32(
-    line: &[i16],
-    table: &[[i16; 16]; 23],
-    shift: u32,
-    out: &mut [i16],
-)
+pub(crate) fn put_line_of_32(line: &[i16], table: &[[i16; 16]; 23], shift: u32, out: &mut [i16])
     requires all { length line.now ≡ 32 }
     requires range { AreWithin 32 255 line.now }
     requires weights { HasRowWeights 5 table.now }

@@ -1,10 +1,10 @@
-use Rattle.std.proofs.Common.{arith, refl, ◌≡◌, ◌<◌, ◌≤◌, ◌*◌, ◌^◌, ◌-◌, ◌+◌, List, ℤ, pos}
+use Rattle.std.proofs.Common.{arith, refl, ◌≤◌, pos}
 use Rattle.std.specs.Int.RustNames.{unsigned_abs}
 use Rattle.std.proofs.lemmas.List.Elements.{All-get_or}
 use Rattle.hv_transform.specs.Passes.{AreWithin}
 use Rattle.hv_transform.proofs.WeightLemmas.{rows_are_light}
 use Rattle.hv_transform.proofs.ForwardStepLemmas.{Have16Bits-within}
-use Rattle.hv_transform.proofs.ForwardLaneLemmas.{ForwardLanes, forward_is, forward_within, halfway_numbers, pair_numbers}
+use Rattle.hv_transform.proofs.ForwardLaneLemmas.{forward_is, forward_within, halfway_numbers, pair_numbers}
 use Rattle.hv_transform.proofs.forward_lanes.forward_32.Goals as goal
 
 pub columns_of_32-requires-clause-numbers : goal.columns_of_32-requires-clause-numbers

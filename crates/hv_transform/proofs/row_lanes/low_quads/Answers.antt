@@ -1,4 +1,4 @@
-use Rattle.std.proofs.Common.{map, refl, arith, take}
+use Rattle.std.proofs.Common.{map, arith, take}
 use mir.Val.{of_z}
 use mir.Syntax.{w16}
 use Rattle.hv_transform.specs.Forward.{quarter_sum}

@@ -1,10 +1,9 @@
-use Rattle.std.proofs.Common.{arith, ◌+◌, ◌-◌, ◌∙◌, ap, sym, take, drop, ◌≡◌, ◌<◌, ℕ, List, ℤ, rules, refl}
+use Rattle.std.proofs.Common.{arith, ◌+◌, ◌-◌, ◌∙◌, ap, ◌≡◌, ◌<◌, refl}
 use Rattle.std.proofs.lemmas.Bool.{cases_lt}
 use mathlib.Core.Logic.{⊎_elim}
 use Rattle.hv_transform.specs.Lanes.{at}
 use mir.Syntax.{w16}
 use Rattle.hv_transform.proofs.LaneStepLemmas.{passed}
-use Rattle.hv_transform.specs.Forward.{in_eights}
 use Rattle.hv_transform.proofs.RowLaneLemmas.{kept_eight}
 use Rattle.hv_transform.proofs.RowSumLemmas.{own_lanes, more_lanes, part_lanes, part_numbers, row_mean_same, first_eight, second_eight}
 use Rattle.hv_transform.proofs.row_sums.put_line_of_16.Goals as goal

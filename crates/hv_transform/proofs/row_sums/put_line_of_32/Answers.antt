@@ -4,7 +4,6 @@ use Rattle.std.specs.Int.RustNames.{unsigned_abs}
 use mir.Syntax.{w16}
 use Rattle.hv_lemmas.specs.Clipping.{clip16}
 use Rattle.hv_sample_model.specs.Quantisation.{rounded}
-use Rattle.hv_transform.specs.Passes.{HasFirst}
 use Rattle.hv_transform.specs.Lanes.{at, FourLanes, Numbers}
 use Rattle.hv_transform.specs.Forward.{row_sum, row_mean, in_eights, folded_sum}
 use Rattle.hv_transform.proofs.FourLaneLemmas.{same_lanes}

@@ -1,4 +1,4 @@
-use Rattle.std.proofs.Common.{arith, ◌+◌, ◌∙◌, ap, sym, take, drop, ◌≡◌, List, ℤ, rules}
+use Rattle.std.proofs.Common.{arith, ◌∙◌, ap, sym, take, drop, ◌≡◌}
 use Rattle.hv_transform.specs.Lanes.{at}
 use lib.Seq.{take_all}
 use Rattle.hv_transform.proofs.RowLaneLemmas.{kept_eight}

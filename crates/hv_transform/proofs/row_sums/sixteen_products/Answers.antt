@@ -1,4 +1,4 @@
-use Rattle.std.proofs.Common.{arith, ℕ, ℤ, ◌+ℤ◌, ◌+◌}
+use Rattle.std.proofs.Common.{ℕ, ℤ, ◌+ℤ◌, ◌+◌}
 use Rattle.hv_transform.specs.Passes.{table_row}
 use Rattle.hv_transform.specs.Forward.{quarter_sum}
 use Rattle.hv_transform.proofs.FourLaneLemmas.{kept_four}

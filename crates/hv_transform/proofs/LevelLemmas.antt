@@ -1,5 +1,5 @@
 -- Levels of eight coefficients, lane by lane.
-use Rattle.std.proofs.Common.{◌≡◌, ℕ, ◌+◌, ◌-◌, ◌*◌, ◌/◌, ◌%◌, ◌^◌, ◌<◌, ◌≤◌, List, [], ◌∷◌, ◌++◌, ℤ, pos, negsuc, ◌+ℤ◌, ◌*ℤ◌, map, refl, arith, ap, ap₂, ◌∙◌, sym, subst, true, false, length, zero, suc, replicate, All, Bool, cond, nat_eq, nat_lt, ◌||◌, take, drop, add-one}
+use Rattle.std.proofs.Common.{◌≡◌, ℕ, ◌+◌, ◌-◌, ◌*◌, ◌/◌, ◌%◌, ◌^◌, ◌<◌, ◌≤◌, List, [], ◌∷◌, ◌++◌, ℤ, pos, negsuc, ◌+ℤ◌, ◌*ℤ◌, map, refl, arith, ap, ap₂, ◌∙◌, sym, true, false, length, zero, suc, replicate, All, Bool, cond, nat_eq, nat_lt, ◌||◌, take, drop, take-add, add-one}
 use Rattle.std.specs.Prelude.{neg_ℤ, not}
 use Rattle.std.specs.Int.{int_wrap}
 use Rattle.std.specs.List.{list_any}
@@ -8,9 +8,8 @@ use Rattle.std.proofs.lemmas.Int.{ints, to_z-of_z, wrapping_add_is, wrapping_add
 use Rattle.std.proofs.lemmas.Bool.Decides.{nat_tests}
 use Rattle.std.proofs.lemmas.Bool.{cases_lt}
 use mathlib.Core.Logic.{⊎_elim}
-use Rattle.std.proofs.lemmas.List.{length-map, length-take-le, length-drop, get_or-map}
+use Rattle.std.proofs.lemmas.List.{length-map, length-take-le, length-drop, get_or-map, take-append-drop}
 use Rattle.std.proofs.lemmas.List.Folds.{list_any-append}
-use Rattle.std.proofs.lemmas.Slice.{take-put_mid}
 use borrow.Rule.Slice.PartMut.{put_mid}
 use Rattle.hv_transform.specs.Passes.{HasFirst}
 use Rattle.hv_transform.proofs.PartLemmas.{HasFirst-put, at_part}
@@ -31,7 +30,6 @@ use Rattle.hv_transform.specs.Lanes.{at, Numbers}
 use Rattle.hv_transform.specs.Levels.{rounded_level, level_by}
 use Rattle.hv_transform.specs.Ranges.{Have16Bits}
 use Rattle.hv_transform.proofs.LaneStepLemmas.{passed, kept, small_numbers, clips_kept}
-use Rattle.hv_transform.proofs.InverseLaneLemmas.{clip_fits}
 
 fits : (z : ℤ) → unsigned_abs z ≤ 2000000000 → SFits w32 z
 fits z h = fits_signed_from_abs w32 z (omega (arith, h))
@@ -259,33 +257,50 @@ written_levels f o s cs ls out l m e =
     ap (put_chunk 0 out) (ap (passed w16) e ∙ clips_kept (λ z. with_sign_of z ((unsigned_abs z * f + o) / 2 ^ s)) cs) ∙
     put_chunk_whole out (map (level_by f o s) cs) (m ∙ sym (length-map cs (level_by f o s) ∙ l))
 
-level_numbers : (f o s : ℕ) (cs : List ℤ) → Numbers (map (level_by f o s) cs)
-level_numbers f o s [] k = record { sfits = omega (arith, ints) }
-level_numbers f o s (z ∷ cs) zero = clip_fits (with_sign_of z ((unsigned_abs z * f + o) / 2 ^ s))
-level_numbers f o s (z ∷ cs) (suc k) = level_numbers f o s cs k
-
-pub any_of_levels : (f o s : ℕ) (cs ls : List ℤ) → length cs ≡ 8 → ls ≡ map (level_by f o s) cs → not (nat_eq (mask_l (marks 8 ls) % 18446744073709551616) 0) ≡ list_any is_other_than_0 (map (level_by f o s) cs)
-any_of_levels f o s cs ls l e =
-    ap (λ ls. not (nat_eq (mask_l (marks 8 ls) % 18446744073709551616) 0)) e ∙
-    any_is (map (level_by f o s) cs) (length-map cs (level_by f o s) ∙ l) (level_numbers f o s cs)
-
--- eight more levels, where it is asked whether one of them isn't 0
-pub eight_more : (g k : ℕ) (p : ℤ → Bool) (f h : ℤ → ℤ) (numbers out new : List ℤ) (some more : Bool) → 8 * g + 8 ≤ length numbers → length out ≡ length numbers → ((z : ℤ) → f z ≡ h z)
-    → HasFirst (8 * g) (λ i. h (at numbers i)) out × (some ≡ list_any p (take (8 * g) out)) → new ≡ map f (take (8 * g + 8 - 8 * g) (drop (8 * g) numbers)) → more ≡ list_any p new
-    → HasFirst (8 * (g + 1)) (λ i. h (at numbers i)) (put_mid (8 * g) k out new) × ((some || more) ≡ list_any p (take (8 * (g + 1)) (put_mid (8 * g) k out new)))
-eight_more g k p f h numbers out new some more inside alike same old is any =
+-- eight more levels
+pub eight_more : (g k : ℕ) (f h : ℤ → ℤ) (numbers out new : List ℤ) → 8 * g + 8 ≤ length numbers → length out ≡ length numbers → ((z : ℤ) → f z ≡ h z)
+    → HasFirst (8 * g) (λ i. h (at numbers i)) out → new ≡ map f (take (8 * g + 8 - 8 * g) (drop (8 * g) numbers)) → HasFirst (8 * g + 8) (λ i. h (at numbers i)) (put_mid (8 * g) k out new)
+eight_more g k f h numbers out new inside alike same old is =
     let few : 8 * g + 8 - 8 * g ≡ 8 = omega arith in
     let part : List ℤ = take 8 (drop (8 * g) numbers) in
     let long : length part ≡ 8 = length-take-le 8 (drop (8 * g) numbers) (omega (arith, inside, length-drop (8 * g) numbers)) in
     let values : new ≡ map f part = is ∙ ap (λ n. map f (take n (drop (8 * g) numbers))) few in
     let count : length new ≡ 8 = ap length values ∙ length-map part f ∙ long in
-    let next : 8 * (g + 1) ≡ 8 * g + 8 = omega arith in
     let room : 8 * g ≤ length out = omega (arith, inside, alike) in
-    let more_numbers : HasFirst (8 * g + 8) (λ i. h (at numbers i)) (put_mid (8 * g) k out new) =
-    HasFirst-put (8 * g) 8 k (λ i. h (at numbers i)) out new room count old.0
+    HasFirst-put (8 * g) 8 k (λ i. h (at numbers i)) out new room count old
     (λ n below.
-    ap (λ v. at v n) values ∙ get_or-map f part n (pos 0) (pos 0) (omega (arith, below, long)) ∙ same (at part n) ∙ ap h (at_part (8 * g) 8 n numbers below)) in
-    let more_any : (some || more) ≡ list_any p (take (8 * g + 8) (put_mid (8 * g) k out new)) =
-    ap₂ (λ a b. a || b) old.1 any ∙ sym (list_any-append p (take (8 * g) out) new) ∙
-    sym (ap (list_any p) (take-put_mid (8 * g) k out new (8 * g + 8) (omega (arith, count)) room)) in
-    (subst (λ n. HasFirst n (λ i. h (at numbers i)) (put_mid (8 * g) k out new)) (sym next) more_numbers, more_any ∙ sym (ap (λ n. list_any p (take n (put_mid (8 * g) k out new))) next))
+    ap (λ v. at v n) values ∙ get_or-map f part n (pos 0) (pos 0) (omega (arith, below, long)) ∙ same (at part n) ∙ ap h (at_part (8 * g) 8 n numbers below))
+
+-- whether one of many passes a test
+or_true : (b : Bool) → (b || true) ≡ true
+or_true true = refl
+or_true false = refl
+
+pub any_part : (p : ℤ → Bool) (a m : ℕ) (xs : List ℤ) → list_any p (take m (drop a xs)) ≡ true → list_any p xs ≡ true
+any_part p a m xs h =
+    let rest : list_any p (drop a xs) ≡ true =
+    sym (ap (list_any p) (take-append-drop m (drop a xs))) ∙ list_any-append p (take m (drop a xs)) (drop m (drop a xs)) ∙ ap (λ b. b || list_any p (drop m (drop a xs))) h in
+    sym (ap (list_any p) (take-append-drop a xs)) ∙ list_any-append p (take a xs) (drop a xs) ∙ ap (λ b. list_any p (take a xs) || b) rest ∙ or_true (list_any p (take a xs))
+
+pub any_at : (p : ℤ → Bool) (i : ℕ) (xs : List ℤ) → i < length xs → p (at xs i) ≡ true → list_any p xs ≡ true
+any_at p i [] inside h = absurd (omega (arith, inside))
+any_at p zero (x ∷ xs) inside h = ap (λ b. b || list_any p xs) h
+any_at p (suc i) (x ∷ xs) inside h = ap (λ b. p x || b) (any_at p i xs (omega (arith, inside)) h) ∙ or_true (p x)
+
+-- none of some more
+pub none_more : (p : ℤ → Bool) (a m : ℕ) (xs : List ℤ) → a ≤ length xs → list_any p (take a xs) ≡ false → list_any p (take m (drop a xs)) ≡ false → list_any p (take (a + m) xs) ≡ false
+none_more p a m xs inside old new =
+    ap (list_any p) (take-add a m xs) ∙ list_any-append p (take a xs) (take m (drop a xs)) ∙ ap₂ (λ b c. b || c) old new
+
+pub none_next : (p : ℤ → Bool) (i : ℕ) (xs : List ℤ) → i < length xs → list_any p (take i xs) ≡ false → p (at xs i) ≡ false → list_any p (take (i + 1) xs) ≡ false
+none_next p i [] inside old new = absurd (omega (arith, inside))
+none_next p zero (x ∷ xs) inside old new = ap (λ b. b || false) new
+none_next p (suc i) (x ∷ xs) inside old new =
+    let more : suc i + 1 ≡ suc (i + 1) = omega arith in
+    let first : p x ≡ false = first_false (p x) (list_any p (take i xs)) old in
+    let rest : list_any p (take i xs) ≡ false = sym (ap (λ b. b || list_any p (take i xs)) first) ∙ old in
+    ap (λ n. list_any p (take n (x ∷ xs))) more ∙ ap₂ (λ b c. b || c) first (none_next p i xs (omega (arith, inside)) rest new)
+  where
+    first_false : (b c : Bool) → (b || c) ≡ false → b ≡ false
+    first_false true c h = h
+    first_false false c h = refl

@@ -4,6 +4,7 @@ ghost use Rattle.std.specs.List.{list_any};
 ghost use Rattle.std.specs.Int.RustNames.{unsigned_abs};
 ghost use Rattle.hv_sample_model.specs.Quantisation.{with_sign_of};
 ghost use Rattle.hv_transform.specs.Ranges.{Have16Bits, is_other_than_0};
+ghost use Rattle.hv_transform.specs.Lanes.{Numbers};
 ghost use Rattle.hv_transform.specs.Levels.{rounded_level, level_by};
 
 use crate::lanes::clipped;
@@ -39,8 +40,7 @@ fn rounded_levels(products: i32x8, offset: u32, shift: u32) -> i32x8
     (products + i32x8::splat(offset as i32) + more) >> i32x8::splat(shift as i32)
 }
 
-/// Writes the levels of eight coefficients, by their factor, what is added, and the shift. The
-/// answer is whether a level isn't 0.
+/// Writes the levels of eight coefficients, by their factor, what is added, and the shift.
 #[inline(always)]
 pub(crate) fn quantise_eight(
     coefficients: &[i32],
@@ -48,7 +48,7 @@ pub(crate) fn quantise_eight(
     offset: u32,
     shift: u32,
     out: &mut [i16],
-) -> bool
+)
     requires eight { length coefficients.now ≡ 8 }
     requires range { Have16Bits coefficients.now }
     requires some { 0 < factor }
@@ -57,11 +57,46 @@ pub(crate) fn quantise_eight(
     requires greatest { shift ≤ 27 }
     requires part { 2 * offset < 2 ^ shift }
     requires room { length out.old ≡ 8 }
-    ensures value { out.new ≡ map (level_by factor offset shift) coefficients.now }
-    ensures some { result ≡ list_any is_other_than_0 out.new }
+    ensures { out.new ≡ map (level_by factor offset shift) coefficients.now }
 {
     let products = products(i32x8::from_slice(coefficients), factor);
-    let levels = clipped(rounded_levels(products, offset, shift));
-    levels.copy_to_slice(out);
-    levels.simd_ne(i16x8::splat(0)).any()
+    clipped(rounded_levels(products, offset, shift)).copy_to_slice(out);
+}
+
+/// Whether one of eight levels isn't 0.
+#[inline(always)]
+fn has_other_than_0(levels: &[i16]) -> bool
+    requires eight { length levels.now ≡ 8 }
+    requires numbers { Numbers levels.now }
+    ensures { result ≡ list_any is_other_than_0 levels.now }
+{
+    i16x8::from_slice(levels).simd_ne(i16x8::splat(0)).any()
+}
+
+/// Whether a level isn't 0.
+#[inline(always)]
+fn is_other_than_0(level: i16) -> bool
+    ensures { result ≡ is_other_than_0 level }
+{
+    level != 0
+}
+
+/// Whether one of the levels isn't 0. Mostly the first eight tell.
+#[inline(always)]
+pub(crate) fn have_other_than_0(levels: &[i16]) -> bool
+    requires numbers { Numbers levels.now }
+    ensures { result ≡ list_any is_other_than_0 levels.now }
+{
+    let eights = levels.len() / 8;
+    for g in 0..eights {
+        if has_other_than_0(&levels[8 * g..8 * g + 8]) {
+            return true;
+        }
+    }
+    for i in 8 * eights..levels.len() {
+        if is_other_than_0(levels[i]) {
+            return true;
+        }
+    }
+    false
 }

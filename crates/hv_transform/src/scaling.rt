@@ -8,7 +8,7 @@ ghost use Rattle.hv_sample_model.specs.Quantisation.{quantised, rounded, with_si
 ghost use Rattle.hv_tables.specs.Quantisers.{levelScale};
 ghost use Rattle.hv_transform.specs.Ranges.{Have16Bits, is_other_than_0};
 
-use crate::level_lanes::quantise_eight;
+use crate::level_lanes::{have_other_than_0, quantise_eight};
 use hv_tables::{level_scale, quantisation_factor};
 
 /// A level by its factor.
@@ -131,14 +131,6 @@ fn offset_of(intra: bool, shift: u32) -> u32
     offset_of_kind(intra) << (shift - 9)
 }
 
-/// Whether a level isn't 0.
-#[inline(always)]
-fn is_other_than_0(level: i16) -> bool
-    ensures { result ≡ is_other_than_0 level }
-{
-    level != 0
-}
-
 /// The levels of a block of transform coefficients, as the encoder chooses them.
 ///
 /// `coefficients` are those of a block of 2^log2 columns, log2 is 2 to 5, and each has 16 bits.
@@ -157,21 +149,17 @@ pub fn quantise(coefficients: &[i32], log2: u8, qp: u8, intra: bool, out: &mut [
     let factor = u32::from(quantisation_factor(qp));
     let offset = offset_of(intra, shift);
     let eights = out.len() / 8;
-    let mut is_some = false;
     for g in 0..eights {
-        let is_other = quantise_eight(
+        quantise_eight(
             &coefficients[8 * g..8 * g + 8],
             factor,
             offset,
             shift,
             &mut out[8 * g..8 * g + 8],
         );
-        is_some = is_some | is_other;
     }
     for i in 8 * eights..out.len() {
-        let level = quantised_by(coefficients[i], factor, offset, shift);
-        out[i] = level;
-        is_some = is_some | is_other_than_0(level);
+        out[i] = quantised_by(coefficients[i], factor, offset, shift);
     }
-    is_some
+    have_other_than_0(out)
 }

@@ -1,9 +1,7 @@
-use Rattle.std.proofs.Common.{◌≤◌, ◌∙◌, ap, sym, subst, All, List, ℤ}
-use Rattle.std.specs.List.{list_any}
+use Rattle.std.proofs.Common.{◌≤◌, sym, subst, All, List, ℤ}
 use Rattle.std.specs.Int.RustNames.{unsigned_abs}
-use Rattle.hv_transform.specs.Ranges.{is_other_than_0}
 use Rattle.hv_transform.specs.Lanes.{Numbers32}
-use Rattle.hv_transform.proofs.LevelLemmas.{small_of_bits, coefficients_kept, products_kept, products_small, levels_kept, levels_fit, eight_levels, written_levels, any_of_levels}
+use Rattle.hv_transform.proofs.LevelLemmas.{small_of_bits, coefficients_kept, products_kept, products_small, levels_kept, levels_fit, eight_levels, written_levels}
 use Rattle.hv_transform.proofs.level_lanes.quantise_eight.Goals as goal
 
 pub products-products-requires-clause-range : goal.products-products-requires-clause-range
@@ -18,22 +16,15 @@ rounded_levels-requires-clause-range c =
     (sym (products_kept c.args.factor numbers c.products-products.result c.requires.eight c.requires.range c.requires.most c.products-products.ensures))
     (products_small c.args.factor numbers c.requires.most (small_of_bits numbers c.requires.range))
 
-pub clipped-levels-requires-clause-numbers : goal.clipped-levels-requires-clause-numbers
-clipped-levels-requires-clause-numbers c =
+pub clipped-requires-clause-numbers : goal.clipped-requires-clause-numbers
+clipped-requires-clause-numbers c =
     let numbers : List ℤ = c.args.coefficients.now in
     subst Numbers32
     (sym (levels_kept c.args.factor c.args.offset c.args.shift numbers c.products-products.result c.rounded_levels.result c.requires.eight c.requires.range c.requires.most c.requires.greatest c.requires.part c.products-products.ensures c.rounded_levels.ensures))
     (levels_fit c.args.offset c.args.shift _ c.requires.greatest c.requires.part (products_small c.args.factor numbers c.requires.most (small_of_bits numbers c.requires.range)))
 
-pub returns-clause-value : goal.returns-clause-value
-returns-clause-value c =
+pub returns : goal.returns
+returns c =
     let numbers : List ℤ = c.args.coefficients.now in
-    let is = eight_levels c.args.factor c.args.offset c.args.shift numbers c.products-products.result c.rounded_levels.result c.clipped-levels.result c.requires.eight c.requires.range c.requires.some c.requires.most c.requires.greatest c.requires.part c.products-products.ensures c.rounded_levels.ensures c.clipped-levels.ensures in
-    written_levels c.args.factor c.args.offset c.args.shift numbers c.clipped-levels.result c.args.out.now c.requires.eight c.requires.room is
-
-pub returns-clause-some : goal.returns-clause-some
-returns-clause-some c =
-    let numbers : List ℤ = c.args.coefficients.now in
-    let is = eight_levels c.args.factor c.args.offset c.args.shift numbers c.products-products.result c.rounded_levels.result c.clipped-levels.result c.requires.eight c.requires.range c.requires.some c.requires.most c.requires.greatest c.requires.part c.products-products.ensures c.rounded_levels.ensures c.clipped-levels.ensures in
-    let written = written_levels c.args.factor c.args.offset c.args.shift numbers c.clipped-levels.result c.args.out.now c.requires.eight c.requires.room is in
-    any_of_levels c.args.factor c.args.offset c.args.shift numbers c.clipped-levels.result c.requires.eight is ∙ ap (list_any is_other_than_0) (sym written)
+    let is = eight_levels c.args.factor c.args.offset c.args.shift numbers c.products-products.result c.rounded_levels.result c.clipped.result c.requires.eight c.requires.range c.requires.some c.requires.most c.requires.greatest c.requires.part c.products-products.ensures c.rounded_levels.ensures c.clipped.ensures in
+    written_levels c.args.factor c.args.offset c.args.shift numbers c.clipped.result c.args.out.now c.requires.eight c.requires.room is

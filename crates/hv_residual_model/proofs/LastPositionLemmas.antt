@@ -84,7 +84,7 @@ good b v least most h =
       fits = leb-true (prefix_of v) (2 * log2 - 1) fit;
       from = leb-true (first_of_prefix (prefix_of v)) v parts.0;
       short =
-      ltb-true (v - first_of_prefix (prefix_of v)) (2 ^ suffix_length (prefix_of v)) parts.1;
+          ltb-true (v - first_of_prefix (prefix_of v)) (2 ^ suffix_length (prefix_of v)) parts.1;
     }
 
 reads_prefix : (table : CtxTable) (b : TransformBlock) (v : ℕ) → Good b v →

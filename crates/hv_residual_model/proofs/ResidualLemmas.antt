@@ -62,7 +62,7 @@ none_or_last_by b levels m (inr last) false e =
       there = last.there;
       rest = λ n a c.
           below_more Holds m (λ k less more. last.rest k more less) (λ more. e) n (omega (arith, c))
-      a;
+          a;
     }))
 
 none_or_last : (b : TransformBlock) (levels : List ℤ) (m : ℕ) →
@@ -134,7 +134,7 @@ rows_come_back b levels n side whole last =
     let from = ltb-false k (length L) e in
     sym (zero_of (f k) (last.rest k (omega (arith, many, from)) less))) in
     let own : (i : ℕ) → i < s * s →
-        level_of_number L (number_at b i) ≡ slice_index_or levels i (pos 0) =
+    level_of_number L (number_at b i) ≡ slice_index_or levels i (pos 0) =
     λ i less.
     let place = is_at b levels i side less in
     numbered (number_at b i) place.below ∙ place.same in

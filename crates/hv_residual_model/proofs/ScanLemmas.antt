@@ -110,7 +110,7 @@ numbered scan log2 n h below =
     let order : List Position = scan_order scan log2 in
     let p : Position = slice_index_or order n (at 0 0) in
     let t = holds_below (side * side) (numbers_come_back order side) (one_to_one scan log2 h).0 n
-        below in
+    below in
     let a = and_parts (nat_eq (number_in order p) n) (nat_lt p.x side && nat_lt p.y side) t in
     let c = and_parts (nat_lt p.x side) (nat_lt p.y side) a.1 in
     record {

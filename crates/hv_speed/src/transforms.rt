@@ -193,13 +193,20 @@ impl TransformKernel {
             }
             TransformKernel::Scale8 | TransformKernel::Scale32 => {
                 scale(
-                    &block.residual, block.log2, QUANTISER, &mut block.new_coefficients,
+                    &block.residual,
+                    block.log2,
+                    QUANTISER,
+                    &mut block.new_coefficients,
                 );
                 size_at(&block.new_coefficients, place)
             }
             TransformKernel::Quantise8 | TransformKernel::Quantise32 => {
                 let is_some = quantise(
-                    &block.coefficients, block.log2, QUANTISER, true, &mut block.new_residual,
+                    &block.coefficients,
+                    block.log2,
+                    QUANTISER,
+                    true,
+                    &mut block.new_residual,
                 );
                 short_size_at(&block.new_residual, place) + u64::from(is_some)
             }

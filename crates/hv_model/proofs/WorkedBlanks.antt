@@ -92,7 +92,7 @@ unfolding unit_with no_units no_levels
 grey_of_blank_units = refl
 
 nothing_of_others :
-    unfiltered_picture 128 64 (unit_with (flat 3) false ∷ unit_with (Leaf (Intra 0) (no_units 3)) true ∷ []) ≡
-    None
+    unfiltered_picture 128 64
+    (unit_with (flat 3) false ∷ unit_with (Leaf (Intra 0) (no_units 3)) true ∷ []) ≡ None
 unfolding unit_with no_units no_levels
 nothing_of_others = refl

@@ -1,6 +1,6 @@
 -- Decoding (clauses 7 to 9 and Annex B): the pictures that a byte stream shows, in output order;
--- none where it isn't a stream of this profile. So far each picture is an IDR picture, and there are
--- samples of blank units alone (`unfiltered_picture`).
+-- none where it isn't a stream of this profile. So far each picture is an IDR picture, and there
+-- are samples of blank units alone (`unfiltered_picture`).
 use Rattle.std.specs.Prelude.{ℕ, ◌+◌, ◌-◌, ◌*◌, ◌%◌, Bool, false, cond, not, nat_eq, nat_lt, nat_le, ◌&&◌, ◌||◌, List, [], ◌∷◌, length, take, drop, filter, replicate, Option, Some, None, option_and_then, option_map}
 use Rattle.std.specs.List.{list_all}
 use Rattle.hv_types.specs.declared.bins.SliceKind.TheVariants.{I}

@@ -43,9 +43,9 @@ grey width height = record {
   cr = filled_plane (width / 2) (height / 2) 128;
 }
 
--- Before the in-loop filters, where all units are blank: the first block predicts from nothing, which
--- stands for 128 (8.4.4.2.2), and DC of samples that are all 128 is 128 (8.4.4.2.5); no level adds to
--- it. So far there are no samples of other units.
+-- Before the in-loop filters, where all units are blank: the first block predicts from nothing,
+-- which stands for 128 (8.4.4.2.2), and DC of samples that are all 128 is 128 (8.4.4.2.5); no level
+-- adds to it. So far there are no samples of other units.
 abbrev pub unfiltered_picture : ℕ → ℕ → List CodingTreeUnit → Option Picture
 unfiltered_picture width height units =
     cond (list_all is_blank units) (Some (grey width height)) None

@@ -13,8 +13,8 @@ pub fn alignment_is_read()
     ensures { AlignmentIsRead }
 {}
 
-/// The slice data (7.3.8.1) of at least one coding tree block of an I slice, the code word of coding
-/// tree units that may be coded there with zeros to the byte, is read as these units.
+/// The slice data (7.3.8.1) of at least one coding tree block of an I slice, the code word of
+/// coding tree units that may be coded there with zeros to the byte, is read as these units.
 pub fn slice_data_is_read()
     ensures { SliceDataIsRead }
 {}

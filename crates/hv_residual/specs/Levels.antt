@@ -23,7 +23,8 @@ first_at (suc k) first true = false
 
 -- the bins of what is left of a level
 unfoldable pub one_remaining_bins : Bool → ℕ → ℕ → List UnitBin
-one_remaining_bins has_remaining cRiceParam value = cond has_remaining (remaining_bins cRiceParam value) []
+one_remaining_bins has_remaining cRiceParam value =
+    cond has_remaining (remaining_bins cRiceParam value) []
 
 -- how many levels that are 0 stand before the first other
 abbrev pub zeros_before : List ℤ → ℕ

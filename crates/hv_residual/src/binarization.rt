@@ -45,8 +45,8 @@ fn put_exp_golomb<B: BinSink>(sink: &mut B, k: u8, value: u32)
     put_fixed_length(sink, order, rest);
 }
 
-/// Puts the prefix of coeff_abs_level_remaining (9.3.3.11): as many ones, and a zero where there are
-/// fewer than four.
+/// Puts the prefix of coeff_abs_level_remaining (9.3.3.11): as many ones, and a zero where there
+/// are fewer than four.
 #[inline(always)]
 fn put_prefix<B: BinSink>(sink: &mut B, prefix: u8)
     requires { prefix ≤ 4 }

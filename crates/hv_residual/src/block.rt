@@ -4,8 +4,8 @@ ghost use Rattle.std.specs.Prelude.{◌≤◌, ◌<◌};
 
 use hv_plan::Scan;
 
-/// What is known of a transform block before its levels: `scanIdx`, the binary logarithm of its side
-/// (`log2TrafoSize`), and whether its component is luma.
+/// What is known of a transform block before its levels: `scanIdx`, the binary logarithm of its
+/// side (`log2TrafoSize`), and whether its component is luma.
 #[derive(Clone, Copy)]
 pub struct Block {
     pub scan: Scan,

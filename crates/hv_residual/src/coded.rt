@@ -4,9 +4,9 @@ ghost use Rattle.std.specs.Prelude.{◌≡◌, ◌≤◌};
 
 use crate::block::Spot;
 
-/// What is kept of the sub-blocks coded so far: coded_sub_block_flag of each, nine to a row, so that
-/// those outside the block are 0 as well, and whether a greater1 flag was 1 in the last one that had
-/// such flags.
+/// What is kept of the sub-blocks coded so far: coded_sub_block_flag of each, nine to a row, so
+/// that those outside the block are 0 as well, and whether a greater1 flag was 1 in the last one
+/// that had such flags.
 #[derive(Clone, Copy)]
 pub struct Coded {
     flags: [bool; 81],

@@ -22,8 +22,8 @@ static OF_SIDE_4: [[u8; 16]; 3] = [
     /* vertical   */ [0, 2, 6, 7, 1, 3, 6, 7, 4, 4, 8, 8, 5, 5, 8, 0],
 ];
 
-/// sigCtx (9.3.4.2.5) in greater blocks, before something is added, along each scan: where the flags
-/// of the sub-blocks at the right and below are 0.
+/// sigCtx (9.3.4.2.5) in greater blocks, before something is added, along each scan: where the
+/// flags of the sub-blocks at the right and below are 0.
 #[rattlefmt::skip]
 static OF_NEITHER: [[u8; 16]; 3] = [
     /* diagonal   */ [2, 1, 1, 1, 1, 1, 0, 0, 0, 0, 0, 0, 0, 0, 0, 0],

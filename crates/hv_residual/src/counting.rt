@@ -101,8 +101,8 @@ fn count_levels(levels: &[i16]) -> u32
     count.min(8) + (u32::from(first > 1) + (count + remaining))
 }
 
-/// Whether sig_coeff_flag of the last of these levels is inferred: it is sure that one of them isn't
-/// 0, and no other is it.
+/// Whether sig_coeff_flag of the last of these levels is inferred: it is sure that one of them
+/// isn't 0, and no other is it.
 #[inline(always)]
 fn is_inferred(levels: &[i16], sure: bool) -> bool
     requires { length levels.now ≤ 16 }

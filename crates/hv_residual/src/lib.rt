@@ -1,6 +1,6 @@
-//! The levels of a transform block (`residual_coding`, 7.3.8.11): `put_residual` puts them as bins into
-//! a sink, and `count_residual` says how many bins they are without visiting one. `scan_of` says
-//! which scan a block has (7.4.9.11), and `any_significant` whether it is coded at all.
+//! The levels of a transform block (`residual_coding`, 7.3.8.11): `put_residual` puts them as bins
+//! into a sink, and `count_residual` says how many bins they are without visiting one. `scan_of`
+//! says which scan a block has (7.4.9.11), and `any_significant` whether it is coded at all.
 //!
 //! A block of 2^log2 columns and rows stands by rows, each from left to right; log2 is 2 to 5. None
 //! of them takes memory, and each always answers.

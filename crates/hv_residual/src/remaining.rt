@@ -16,8 +16,8 @@ pub struct Base {
     pub has_remaining: bool,
 }
 
-/// The base of a level, where so many greater1 flags may still follow, `first` while none was 1, from
-/// the greater2 flag and this level's own greater1 flag.
+/// The base of a level, where so many greater1 flags may still follow, `first` while none was 1,
+/// from the greater2 flag and this level's own greater1 flag.
 #[inline(always)]
 pub fn base_of(left: u8, first: bool, greater2: bool, flag: bool) -> Base
     ensures { base result.base_level result.has_remaining ≡ base_at left first greater2 flag }

@@ -35,8 +35,8 @@ fn depends_on_mode(log2: u8, luma: bool) -> bool
 }
 
 /// The scan of a transform block of side 2^log2 in a coding unit predicted so, in luma or chroma
-/// (`scanIdx`, 7.4.9.11): in intra units, for 4x4 blocks and 8x8 blocks of luma, vertical for modes 6
-/// to 14 and horizontal for modes 22 to 30; else diagonal. The mode of chroma is that of luma.
+/// (`scanIdx`, 7.4.9.11): in intra units, for 4x4 blocks and 8x8 blocks of luma, vertical for modes
+/// 6 to 14 and horizontal for modes 22 to 30; else diagonal. The mode of chroma is that of luma.
 pub fn scan_of(pred: Pred, log2: u8, luma: bool) -> Scan
     ensures { result ≡ scanIdx_of pred log2 luma }
 {

@@ -30,8 +30,8 @@ pub fn any_significant(levels: &[i16]) -> bool
     false
 }
 
-/// The levels of a sub-block that aren't 0, from the last one down: magnitudes and signs of the first
-/// `count` entries.
+/// The levels of a sub-block that aren't 0, from the last one down: magnitudes and signs of the
+/// first `count` entries.
 #[derive(Clone, Copy)]
 pub struct Significant {
     pub magnitudes: [u16; 16],
@@ -102,8 +102,8 @@ fn still_sure(sure: bool, flag: bool) -> bool
     sure && !flag
 }
 
-/// Puts sig_coeff_flag of these levels, the last of them at position 0; that one only where it isn't
-/// sure to be 1.
+/// Puts sig_coeff_flag of these levels, the last of them at position 0; that one only where it
+/// isn't sure to be 1.
 #[inline(always)]
 pub fn put_significance<B: BinSink>(
     sink: &mut B,

@@ -26,8 +26,8 @@ fn had_after(had: bool, count: usize, first: u16) -> bool
     if count == 0 { had } else { first > 1 }
 }
 
-/// Puts what follows the significance of these levels, and says whether a greater1 flag was 1 in the
-/// last sub-block that had such flags.
+/// Puts what follows the significance of these levels, and says whether a greater1 flag was 1 in
+/// the last sub-block that had such flags.
 #[inline(always)]
 fn put_levels<B: BinSink>(sink: &mut B, block: Block, set: u8, had: bool, levels: &[i16]) -> bool
     requires set { set ≤ 3 }

@@ -1,7 +1,7 @@
 //! Blocks worked by hand. A row says which bins a block has: `X` and `Y` for the prefixes of the
-//! last position, `C` for coded_sub_block_flag, `S` for sig_coeff_flag, `1` and `2` for the greater1
-//! and greater2 flags, each with the number of its context variable and the value, `+` for 1 and `-`
-//! for 0; and the value alone for a bin in bypass.
+//! last position, `C` for coded_sub_block_flag, `S` for sig_coeff_flag, `1` and `2` for the
+//! greater1 and greater2 flags, each with the number of its context variable and the value, `+` for
+//! 1 and `-` for 0; and the value alone for a bin in bypass.
 
 ghost use Rattle.std.specs.Prelude.{◌≡◌, ◌*◌, ◌^◌, ◌≤◌, length, true};
 ghost use Rattle.hv_residual_model.specs.ResidualBins.{any_significant};
@@ -139,7 +139,7 @@ fn greatest_level(rt: HostRuntime) {
     );
 }
 
-/// One level at the right upper corner of 8x8, in the diagonal scan: its sub-block is the right one.
+/// One level at the right upper corner of 8x8, in the diagonal scan: the right sub-block has it.
 #[test]
 fn corner_in_the_diagonal_scan(rt: HostRuntime) {
     assert!(rt;
@@ -148,8 +148,8 @@ fn corner_in_the_diagonal_scan(rt: HostRuntime) {
             log2: 3,
             luma: true,
             levels: &[(7, 1)],
-            bins: "X3+ X3+ X4+ X4+ X5+ Y3- + S12- S12- S12- S13- S13- S13- S13- S13- S14- 19- - C0- \
-            S9- S9- S9- S10- S9- S9- S11- S10- S9- S9- S11- S10- S9- S11- S10- S0- ",
+            bins: "X3+ X3+ X4+ X4+ X5+ Y3- + S12- S12- S12- S13- S13- S13- S13- S13- S14- 19- - \
+            C0- S9- S9- S9- S10- S9- S9- S11- S10- S9- S9- S11- S10- S9- S11- S10- S0- ",
         })
     );
 }
@@ -163,9 +163,9 @@ fn corner_in_the_vertical_scan(rt: HostRuntime) {
             log2: 3,
             luma: true,
             levels: &[(7, -1)],
-            bins: "X3- Y3+ Y3+ Y4+ Y4+ Y5+ + S18- S18- S18- S19- S18- S18- S19- S19- S18- S19- S19- \
-            S20- 19- + C0- S15- S15- S16- S17- S15- S15- S16- S17- S15- S15- S16- S17- S15- S15- \
-            S16- S0- ",
+            bins: "X3- Y3+ Y3+ Y4+ Y4+ Y5+ + S18- S18- S18- S19- S18- S18- S19- S19- S18- S19- \
+            S19- S20- 19- + C0- S15- S15- S16- S17- S15- S15- S16- S17- S15- S15- S16- S17- \
+            S15- S15- S16- S0- ",
         })
     );
 }

@@ -1,5 +1,5 @@
 -- Samples that are counted one after another.
-use Rattle.std.proofs.Common.{◌≡◌, ◌≢◌, ℕ, suc, ◌+◌, ◌-◌, ◌*◌, ◌<◌, ◌≤◌, Bool, true, false, cond, nat_eq, nat_lt, ⊎_elim, List, [], ◌∷◌, ◌++◌, length, get_or, slice_set, ℤ, pos, ◌+ℤ◌, ◌-ℤ◌, refl, sym, ◌∙◌, ap, ap₂, subst, arith, add-one, length-set, append-nil, append_assoc, replicate, zero}
+use Rattle.std.proofs.Common.{◌≡◌, ◌≢◌, ℕ, suc, ◌+◌, ◌<◌, ◌≤◌, false, cond, nat_eq, nat_lt, ⊎_elim, List, [], ◌∷◌, ◌++◌, length, get_or, slice_set, ℤ, pos, ◌+ℤ◌, ◌-ℤ◌, refl, sym, ◌∙◌, ap, ap₂, subst, arith, add-one, length-set, append-nil, append_assoc, replicate, zero}
 use Rattle.hv_filter_model.specs.OffsetDecision.{Block, difference}
 use Rattle.hv_sao.specs.Decisions.{Counts, edge_key, edge_key_at}
 use Rattle.std.specs.List.{flat_map, sum_by}
@@ -16,7 +16,7 @@ use Rattle.hv_lemmas.specs.Lists.{tabulate}
 use Rattle.hv_lemmas.proofs.ListLemmas.{tabulate_push}
 use Rattle.hv_filter_model.specs.Blocks.{Area, Location, row_locations, locations}
 use Rattle.hv_sao.specs.declared.tally.Tally.{Tally}
-use Rattle.hv_sao.specs.Tallies.{chosen, has_key, count_of, sum_of_key, no_tally, tally_at, counted, Adds, AreAtMost}
+use Rattle.hv_sao.specs.Tallies.{has_key, count_of, sum_of_key, no_tally, tally_at, counted, Adds, AreAtMost}
 use Rattle.hv_sao.proofs.ChosenLemmas.{chosen-append, chosen-one, chosen-none}
 
 pub adds_none : (n : ℕ) (key : Location → ℕ) (value : Location → ℤ) (ts : List Tally) → Adds n key value [] ts ts

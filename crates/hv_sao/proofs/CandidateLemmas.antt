@@ -1,7 +1,6 @@
 -- Candidates from four offsets.
-use Rattle.std.proofs.Common.{◌≡◌, ℕ, zero, suc, ◌+◌, ◌-◌, ◌*◌, ◌<◌, ◌≤◌, Bool, true, false, cond, nat_eq, List, [], ◌∷◌, length, map, ℤ, pos, negsuc, ◌+ℤ◌, refl, sym, ◌∙◌, ap, ap₂, subst, arith}
+use Rattle.std.proofs.Common.{◌≡◌, ℕ, zero, suc, ◌+◌, ◌*◌, ◌<◌, ◌≤◌, Bool, false, cond, nat_eq, List, [], ◌∷◌, length, map, ℤ, pos, negsuc, ◌+ℤ◌, refl, sym, ◌∙◌, ap, ap₂, arith}
 use Rattle.std.specs.Int.RustNames.{unsigned_abs}
-use Rattle.std.specs.List.{sum_by}
 use Rattle.std.proofs.lemmas.Int.{ints, clamps}
 use Rattle.hv_lemmas.specs.Lists.{tabulate}
 use Rattle.hv_lemmas.specs.Clipping.{clip3}
@@ -11,10 +10,10 @@ use Rattle.hv_plan.specs.declared.offsets.SaoComponent.{SaoComponent}
 use Rattle.std.proofs.lemmas.Bool.Decides.{nat_tests}
 use Rattle.hv_filter_model.specs.Blocks.{Location, locations}
 use Rattle.hv_filter_model.specs.OffsetBins.{own_bins}
-use Rattle.hv_filter_model.specs.OffsetDecision.{Block, difference, samples_of, sum_of, mean, offset, candidate, squared_errors}
+use Rattle.hv_filter_model.specs.OffsetDecision.{Block, difference, samples_of, sum_of, mean, offset, candidate}
 use Rattle.hv_sao.specs.declared.offset.Offset.{Offset}
 use Rattle.hv_sao.specs.declared.candidate.Candidate.{Candidate}
-use Rattle.hv_sao.specs.Decisions.{IsOffset, IsCandidate, IsMeasured, IsCounted, IsCountedByEdge, input_error, growth_at, group_count, group_sum, group_growth, offset_at_index, growth_at_index, component_from}
+use Rattle.hv_sao.specs.Decisions.{IsOffset, IsCandidate, IsMeasured, IsCounted, IsCountedByEdge, growth_at, group_count, group_sum, group_growth, offset_at_index, growth_at_index, component_from}
 use Rattle.hv_sao.specs.declared.tally.Tally.{Tally}
 use Rattle.hv_sao.specs.Tallies.{chosen}
 use Rattle.hv_sao.proofs.GrowthLemmas.{errors_by_category}

@@ -1,13 +1,11 @@
 -- By how much squared differences grow, from counts and sums by keys.
-use Rattle.std.proofs.Common.{◌≡◌, ◌≢◌, ℕ, zero, suc, ◌+◌, ◌-◌, ◌*◌, ◌/◌, ◌<◌, ◌≤◌, Bool, true, false, cond, nat_eq, nat_lt, ◌%◌, get_or, Option, Some, None, ◌⊎◌, ⊎_elim, inl, inr, List, [], ◌∷◌, length, map, ℤ, pos, ◌+ℤ◌, ◌-ℤ◌, ◌*ℤ◌, refl, sym, ◌∙◌, ap, ap₂, arith}
+use Rattle.std.proofs.Common.{◌≡◌, ℕ, zero, suc, ◌+◌, ◌-◌, ◌*◌, ◌/◌, ◌<◌, ◌≤◌, Bool, true, false, cond, nat_eq, nat_lt, ◌%◌, get_or, Option, Some, None, ◌⊎◌, ⊎_elim, inl, inr, List, [], ◌∷◌, length, map, ℤ, pos, ◌+ℤ◌, ◌-ℤ◌, ◌*ℤ◌, refl, sym, ◌∙◌, ap, ap₂, arith}
 use Rattle.std.specs.List.{filter, sum_by}
 use Rattle.std.proofs.lemmas.List.Sums.{sum_by-cons, sum-map}
 use Rattle.hv_lemmas.specs.Clipping.{clip1}
-use Rattle.std.specs.Int.{abs_diff}
-use Rattle.std.specs.Int.RustNames.{unsigned_abs}
-use Rattle.std.proofs.lemmas.Int.{ints, clamps}
-use Rattle.std.proofs.lemmas.Bool.{cases_lt, eqb-true}
-use Rattle.std.proofs.lemmas.Bool.Decides.{nat_tests, eqb_tells}
+use Rattle.std.proofs.lemmas.Int.{ints}
+use Rattle.std.proofs.lemmas.Bool.{cases_lt}
+use Rattle.std.proofs.lemmas.Bool.Decides.{nat_tests}
 use Rattle.hv_types.specs.Samples.{Plane, HasByteSamples, sample_at}
 use Rattle.hv_types.proofs.SampleLemmas.{byte_at}
 use Rattle.hv_sao.proofs.SampleLemmas.{clip1_same}
@@ -16,7 +14,7 @@ use Rattle.hv_plan.specs.declared.offsets.SaoKind.TheVariants.{Off, Band, Edge}
 use Rattle.hv_plan.specs.declared.offsets.SaoComponent.{SaoComponent}
 use Rattle.hv_filter_model.specs.Blocks.{Location, locations}
 use Rattle.hv_filter_model.specs.SampleAdaptiveOffset.{category, compared, edge_of, neighbour, SaoOffsetVal, sao_sample}
-use Rattle.hv_filter_model.specs.OffsetDecision.{Block, difference, samples_of, sum_of, squared_error, squared_errors}
+use Rattle.hv_filter_model.specs.OffsetDecision.{Block, difference, sum_of, squared_error, squared_errors}
 use Rattle.hv_sao.specs.declared.tally.Tally.{Tally}
 use Rattle.hv_sao.specs.Tallies.{sum_upto, chosen, has_key, count_of, sum_of_key, tally_at}
 use Rattle.hv_sao.specs.Decisions.{Counts, counts_to, sums_to, input_error, group_count, group_sum, growth, growth_at, category_growth, tally_growth}
@@ -171,7 +169,7 @@ unfolding sum_upto
 errors_by_category b component g₀ g₁ g₂ g₃ bytes e₀ e₁ e₂ e₃ =
     let key : Location → ℕ = λ a. category component.kind b.deblocked a.x a.y in
     let all : chosen (λ a. true) (growth_at b component) (locations b.area) ≡
-        sum_upto 4 (λ j. chosen (has_key key (1 + j)) (growth_at b component) (locations b.area)) =
+    sum_upto 4 (λ j. chosen (has_key key (1 + j)) (growth_at b component) (locations b.area)) =
     chosen-group (λ a. true) key 1 4 (growth_at b component) (λ j. growth_at b component) (locations b.area)
     (λ a.
     ⊎_elim

@@ -1,24 +1,21 @@
 -- The groups of keys of bands and of edges, and the offsets that follow from their counts and sums.
-use Rattle.std.proofs.Common.{◌≡◌, ◌≢◌, ℕ, zero, suc, ◌+◌, ◌-◌, ◌*◌, ◌/◌, ◌%◌, ◌<◌, ◌≤◌, Bool, true, false, cond, nat_eq, nat_lt, ◌⊎◌, ⊎_elim, inl, inr, List, [], ◌∷◌, length, map, get_or, min, max, ℤ, pos, negsuc, ◌+ℤ◌, ◌-ℤ◌, ◌*ℤ◌, ◌≤ℤ◌, refl, sym, ◌∙◌, ap, ap₂, arith, add-one}
-use Rattle.std.specs.List.{filter}
+use Rattle.std.proofs.Common.{◌≡◌, ◌≢◌, ℕ, zero, suc, ◌+◌, ◌-◌, ◌*◌, ◌/◌, ◌%◌, ◌<◌, ◌≤◌, Bool, true, false, cond, nat_eq, nat_lt, ◌⊎◌, ⊎_elim, inl, inr, List, ◌∷◌, length, map, get_or, min, max, ℤ, pos, negsuc, ◌+ℤ◌, ◌-ℤ◌, ◌≤ℤ◌, refl, sym, ◌∙◌, ap, ap₂, arith, add-one}
 use Rattle.std.specs.Int.RustNames.{unsigned_abs}
 use Rattle.std.proofs.lemmas.Int.{ints, clamps}
 use Rattle.std.proofs.lemmas.Bool.{cases_lt, eqb-true, eq-eqb}
-use Rattle.std.proofs.lemmas.Bool.Decides.{nat_tests, eqb_tells}
+use Rattle.std.proofs.lemmas.Bool.Decides.{nat_tests}
 use Rattle.hv_lemmas.specs.Clipping.{clip1, clip3}
 use Rattle.hv_lemmas.specs.Lists.{tabulate}
 use Rattle.hv_lemmas.proofs.ListLemmas.{get_or-tabulate}
-use Rattle.hv_lemmas.proofs.ComparisonLemmas.{lt_below, lt_not_below}
-use Rattle.hv_types.specs.Samples.{Plane, HasByteSamples, sample_at}
+use Rattle.hv_types.specs.Samples.{HasByteSamples, sample_at}
 use Rattle.hv_types.proofs.SampleLemmas.{byte_at}
 use Rattle.hv_plan.specs.declared.offsets.SaoKind.{SaoKind}
 use Rattle.hv_plan.specs.declared.offsets.SaoKind.TheVariants.{Off, Band, Edge}
-use Rattle.hv_plan.specs.declared.offsets.SaoComponent.{SaoComponent}
-use Rattle.hv_filter_model.specs.Blocks.{Location, locations}
-use Rattle.hv_filter_model.specs.SampleAdaptiveOffset.{IsBetween, least_offset, most_offset, bandTable, edgeIdx, category, SaoOffsetVal, sao_sample}
+use Rattle.hv_filter_model.specs.Blocks.{Location}
+use Rattle.hv_filter_model.specs.SampleAdaptiveOffset.{IsBetween, least_offset, most_offset, bandTable, edgeIdx, category, SaoOffsetVal}
 use Rattle.hv_filter_model.specs.OffsetDecision.{Block, difference, samples_of, sum_of, mean, offset, candidate}
 use Rattle.hv_sao.specs.declared.tally.Tally.{Tally}
-use Rattle.hv_sao.specs.Decisions.{Counts, IsOffset, value_key, edge_key, edge_key_at, group_count, group_sum, group_growth, growths_to, moved, category_growth}
+use Rattle.hv_sao.specs.Decisions.{Counts, IsOffset, value_key, edge_key, edge_key_at, group_count, group_sum, group_growth, growths_to, moved}
 use Rattle.hv_sao.proofs.GrowthLemmas.{IsGroup, count_by_group, sum_by_group, growth_by_group, category_most}
 
 offset_known : (f : ℕ → ℤ) (i : ℕ) → i < 4 → get_or (pos 0 ∷ tabulate 4 f) (i + 1) (pos 0) ≡ f i

@@ -1,5 +1,5 @@
 -- Products and squares of signed numbers.
-use Rattle.std.proofs.Common.{◌≡◌, ℕ, ◌+◌, ◌-◌, ◌*◌, ◌<◌, ◌≤◌, ℤ, pos, negsuc, ◌+ℤ◌, ◌-ℤ◌, ◌*ℤ◌, neg_ℤ, arith, refl, ap, ap₂, sym, ◌∙◌, subst, ◌≤ℤ◌}
+use Rattle.std.proofs.Common.{◌≡◌, ℕ, ◌+◌, ◌*◌, ◌≤◌, ℤ, pos, negsuc, ◌+ℤ◌, ◌-ℤ◌, ◌*ℤ◌, arith, refl, ap, ap₂, sym, ◌∙◌, subst, ◌≤ℤ◌}
 use Rattle.std.proofs.lemmas.Int.{ints, clamps, to_z-of_z, to_z_pos, unsigned_abs-mul, fits_signed_from_abs}
 use Rattle.std.proofs.Math.Nat.{mul-le-mul_left, mul-le-mul_right}
 use Rattle.std.specs.Int.RustNames.{FitsSigned}
@@ -10,7 +10,7 @@ use Rattle.hv_lemmas.proofs.SignedLemmas.{passed, passed_small}
 use Rattle.hv_sao.specs.Decisions.{growth}
 use Rattle.std.specs.Int.{abs_diff}
 use Rattle.std.specs.Int.RustNames.{unsigned_abs}
-use borrow.Author.Differences.{up, down, sum_is_lem, product_is}
+use borrow.Author.Differences.{up, down, sum_is_lem}
 
 pub times_sum : (a b c : ℤ) → a *ℤ (b +ℤ c) ≡ (a *ℤ b) +ℤ (a *ℤ c)
 times_sum a b c =
@@ -30,8 +30,16 @@ abs_diff_is a b = omega (arith, ints)
 pub binomial : (v c w : ℤ) → w ≡ v -ℤ c → w *ℤ w ≡ (v *ℤ v) +ℤ ((c *ℤ c) -ℤ (pos 2 *ℤ (c *ℤ v)))
 binomial v c w e =
     let h : up w + down v + up c ≡ down w + up v + down c = omega (arith, ints, e) in
-    omega (arith, ints, ap (λ n. up w * n) h, ap (λ n. down w * n) h, ap (λ n. up v * n) h, ap (λ n. down v * n) h,
-      ap (λ n. up c * n) h, ap (λ n. down c * n) h)
+    omega (
+      arith,
+      ints,
+      ap (λ n. up w * n) h,
+      ap (λ n. down w * n) h,
+      ap (λ n. up v * n) h,
+      ap (λ n. down v * n) h,
+      ap (λ n. up c * n) h,
+      ap (λ n. down c * n) h,
+    )
 
 pub error_is : (a d s : ℕ) → pos (abs_diff a s * abs_diff a s) ≡
     pos (abs_diff a d * abs_diff a d) +ℤ

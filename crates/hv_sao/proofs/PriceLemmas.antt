@@ -1,11 +1,11 @@
 -- The first of least cost, one candidate after another.
-use Rattle.std.proofs.Common.{◌≡◌, ℕ, ◌+◌, Bool, true, false, cond, nat_lt, int_lt, List, [], ◌∷◌, ◌++◌, ℤ, pos, refl, sym, ◌∙◌, ap, ap₂, subst, append_assoc, add-one}
+use Rattle.std.proofs.Common.{◌≡◌, ℕ, ◌+◌, Bool, true, false, cond, nat_lt, int_lt, List, [], ◌∷◌, ◌++◌, pos, refl, sym, ◌∙◌, ap, ap₂, subst, add-one}
 use Rattle.hv_lemmas.specs.Lists.{tabulate}
 use Rattle.hv_lemmas.proofs.ListLemmas.{tabulate_push}
 use Rattle.hv_plan.specs.declared.offsets.SaoKind.{SaoKind}
 use Rattle.hv_plan.specs.declared.offsets.SaoComponent.{SaoComponent}
 use Rattle.hv_filter_model.specs.Costs.{cost, cheaper, first_least}
-use Rattle.hv_filter_model.specs.OffsetBins.{type_bins, class_bins, own_bins, luma_bins, chroma_bins}
+use Rattle.hv_filter_model.specs.OffsetBins.{type_bins, class_bins, own_bins}
 use Rattle.hv_filter_model.specs.OffsetDecision.{Block, Chroma, candidate, squared_errors, chroma_cost}
 use Rattle.hv_sao.specs.declared.candidate.Candidate.{Candidate}
 use Rattle.hv_sao.specs.declared.price.Priced.{Priced}

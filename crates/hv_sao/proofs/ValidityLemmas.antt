@@ -1,5 +1,5 @@
 -- The choice of a block's offsets is valid.
-use Rattle.std.proofs.Common.{◌≡◌, ℕ, zero, suc, ◌+◌, ◌-◌, ◌*◌, ◌/◌, ◌%◌, ◌<◌, ◌≤◌, Bool, true, false, cond, nat_lt, min, List, [], ◌∷◌, ◌++◌, pos, refl, sym, ◌∙◌, ap, ap₂, subst, arith}
+use Rattle.std.proofs.Common.{◌≡◌, ℕ, zero, suc, ◌+◌, ◌<◌, Bool, true, false, cond, nat_lt, List, [], ◌∷◌, ◌++◌, pos, refl, sym, subst, arith}
 use Rattle.hv_lemmas.specs.Lists.{tabulate}
 use Rattle.hv_lemmas.proofs.ListLemmas.{get_or-tabulate}
 use Rattle.hv_plan.specs.declared.offsets.SaoKind.{SaoKind}
@@ -74,11 +74,12 @@ chroma_valid qp cb cr =
     let first : IsValidBand (band_choice qp cb) = band_valid qp cb in
     let second : IsValidBand (band_choice qp cr) = band_valid qp cr in
     first_least_keeps IsValidPair (chroma_cost qp cb cr) (off_pair cb cr) (band_pair qp cb cr ∷ tabulate 4 (edge_pair cb cr))
-    (record { cb = candidate_valid cb Off tt; cr = candidate_valid cr Off tt; kinds = tt })
-    (record {
-      cb = first.valid;
-      cr = second.valid;
-      kinds = bands_have_one_type (band_choice qp cb).kind (band_choice qp cr).kind first.position second.position first.band second.band;
-    },
-    each_tabulate IsValidPair 4 (edge_pair cb cr)
-    (λ i below. record { cb = candidate_valid cb (Edge i) below; cr = candidate_valid cr (Edge i) below; kinds = refl }))
+    (record { cb = candidate_valid cb Off tt; cr = candidate_valid cr Off tt; kinds = tt }) (
+      record {
+        cb = first.valid;
+        cr = second.valid;
+        kinds = bands_have_one_type (band_choice qp cb).kind (band_choice qp cr).kind first.position second.position first.band second.band;
+      },
+      each_tabulate IsValidPair 4 (edge_pair cb cr)
+          (λ i below. record { cb = candidate_valid cb (Edge i) below; cr = candidate_valid cr (Edge i) below; kinds = refl }),
+    )

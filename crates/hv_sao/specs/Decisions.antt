@@ -1,7 +1,6 @@
 -- The choice of a block's offsets from counts and sums of its samples.
-use Rattle.std.specs.Prelude.{◌≡◌, ℕ, ◌+◌, ◌-◌, ◌*◌, ◌^◌, ◌<◌, ◌≤◌, cond, nat_eq, nat_lt, List, [], ◌∷◌, slice_index_or, max, min, ℤ, pos, ◌+ℤ◌, ◌-ℤ◌, ◌*ℤ◌}
+use Rattle.std.specs.Prelude.{◌≡◌, ℕ, ◌+◌, ◌-◌, ◌*◌, ◌<◌, cond, nat_eq, nat_lt, List, [], ◌∷◌, slice_index_or, max, min, ℤ, pos, ◌+ℤ◌, ◌-ℤ◌, ◌*ℤ◌}
 use Rattle.std.specs.Int.{abs_diff}
-use Rattle.std.specs.Int.RustNames.{unsigned_abs}
 use Rattle.hv_lemmas.specs.Clipping.{clip1}
 use Rattle.hv_types.specs.Samples.{Plane, HasByteSamples, sample_at}
 use Rattle.hv_plan.specs.declared.offsets.SaoKind.{SaoKind}

@@ -1,5 +1,5 @@
 -- Candidates with their costs.
-use Rattle.std.specs.Prelude.{◌≡◌, ℕ, ◌+◌, List, ℤ, pos}
+use Rattle.std.specs.Prelude.{◌≡◌, ℕ, List, pos}
 use Rattle.hv_plan.specs.declared.offsets.SaoComponent.{SaoComponent}
 use Rattle.hv_plan.specs.declared.offsets.SaoKind.TheVariants.{Off}
 use Rattle.hv_filter_model.specs.Costs.{cost, first_least}

@@ -1,5 +1,5 @@
 -- Counts and sums of the samples of a block, by keys: what an offset changes is found from them.
-use Rattle.std.specs.Prelude.{◌≡◌, ℕ, zero, suc, ◌+◌, ◌*◌, ◌<◌, ◌≤◌, Bool, cond, nat_eq, List, [], ◌∷◌, length, slice_index_or, ℤ, pos, ◌+ℤ◌, ◌-ℤ◌, ◌*ℤ◌}
+use Rattle.std.specs.Prelude.{◌≡◌, ℕ, zero, suc, ◌+◌, ◌*◌, ◌<◌, ◌≤◌, Bool, cond, nat_eq, List, [], ◌∷◌, length, slice_index_or, ℤ, pos, ◌+ℤ◌, ◌-ℤ◌}
 use Rattle.std.specs.Int.RustNames.{unsigned_abs}
 use Rattle.hv_filter_model.specs.Blocks.{Location}
 use Rattle.hv_sao.specs.declared.tally.Tally.{Tally}
@@ -32,7 +32,7 @@ tally_at tallies k = slice_index_or tallies k no_tally
 
 -- the locations are counted in the first n tallies
 pub record Adds (n : ℕ) (key : Location → ℕ) (value : Location → ℤ) (added : List Location)
-        (old new : List Tally) : Type 0 where
+    (old new : List Tally) : Type 0 where
   pub size : length new ≡ length old
   pub counts : (k : ℕ) → k < n →
       pos (tally_at new k).count ≡ pos (tally_at old k).count +ℤ count_of key k added

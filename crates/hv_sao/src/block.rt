@@ -27,8 +27,7 @@ pub(crate) struct Block<'a> {
 /// Each number of a slice of bytes is a byte.
 fn are_bytes(samples: &[u8])
     ensures { All (λ s. s < 256) samples.now }
-{
-}
+{}
 
 /// All samples of a plane, by rows, each a byte.
 fn samples_of(plane: &Plane) -> &[u8]

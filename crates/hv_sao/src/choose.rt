@@ -11,11 +11,9 @@ ghost use Rattle.hv_sao.specs.Prices.{IsMade, pair_of};
 use crate::block::Block;
 use crate::candidate::Candidate;
 use crate::candidates::{band_candidate, edge_candidate, off_candidate};
-use crate::price::{
-    PricedPair, cheaper, cheaper_pair, price_alone, price_chroma, price_luma,
-};
-use crate::tallies::{squared_differences, tally_edges, tally_values};
+use crate::price::{PricedPair, cheaper, cheaper_pair, price_alone, price_chroma, price_luma};
 use crate::sides::{CHROMA_SIDE, LUMA_SIDE};
+use crate::tallies::{squared_differences, tally_edges, tally_values};
 use hv_plan::{Place, SaoComponent, SaoParam};
 use hv_types::Picture;
 
@@ -30,11 +28,17 @@ fn choose_luma(block: Block<'_>, qp: u8) -> SaoComponent
     let values = tally_values(block);
     let mut best = price_luma(qp, off_candidate(squares));
     'bands: for position in 0..29u8 {
-        best = cheaper(best, price_luma(qp, band_candidate(&values, position, squares)));
+        best = cheaper(
+            best,
+            price_luma(qp, band_candidate(&values, position, squares)),
+        );
     }
     'edges: for class in 0..4u8 {
         let tallies = tally_edges(block, class);
-        best = cheaper(best, price_luma(qp, edge_candidate(&tallies, class, squares)));
+        best = cheaper(
+            best,
+            price_luma(qp, edge_candidate(&tallies, class, squares)),
+        );
     }
     best.candidate.component
 }
@@ -54,7 +58,10 @@ fn best_band(block: Block<'_>, qp: u8, squares: u32) -> Candidate
     let values = tally_values(block);
     let mut best = price_alone(qp, band_candidate(&values, 0, squares));
     'bands: for i in 0..28u8 {
-        best = cheaper(best, price_alone(qp, band_candidate(&values, i + 1, squares)));
+        best = cheaper(
+            best,
+            price_alone(qp, band_candidate(&values, i + 1, squares)),
+        );
     }
     best.candidate
 }

@@ -139,13 +139,7 @@ fn mean_between(all: Tally, least: i8, most: i8) -> i8
 
 /// The offset of a group of eight tallies, in a range, whose samples have the values from `base`
 /// on, one a tally.
-pub(crate) fn offset_from(
-    tallies: &[Tally],
-    at: usize,
-    base: u8,
-    least: i8,
-    most: i8,
-) -> Offset
+pub(crate) fn offset_from(tallies: &[Tally], at: usize, base: u8, least: i8, most: i8) -> Offset
     requires room { at + 8 ≤ length tallies.now }
     requires few { AreAtMost (at + 8) 4096 tallies.now }
     requires base { base ≤ 248 }

@@ -85,12 +85,20 @@ pub(crate) fn price_chroma(qp: u8, cb: Candidate, cr: Candidate) -> PricedPair
 pub(crate) fn cheaper(first: Priced, second: Priced) -> Priced
     ensures { result ≡ cond (int_lt second.cost first.cost) second first }
 {
-    if second.cost < first.cost { second } else { first }
+    if second.cost < first.cost {
+        second
+    } else {
+        first
+    }
 }
 
 /// The second of two where it costs less, else the first.
 pub(crate) fn cheaper_pair(first: PricedPair, second: PricedPair) -> PricedPair
     ensures { result ≡ cond (int_lt second.cost first.cost) second first }
 {
-    if second.cost < first.cost { second } else { first }
+    if second.cost < first.cost {
+        second
+    } else {
+        first
+    }
 }

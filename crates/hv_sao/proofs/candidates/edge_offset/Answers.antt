@@ -1,4 +1,3 @@
-use Rattle.std.proofs.Common.{arith, ◌*◌}
 use Rattle.hv_sao.proofs.CandidateLemmas.{low_edge_at, high_edge_at}
 use Rattle.hv_sao.proofs.candidates.edge_offset.Goals as goal
 

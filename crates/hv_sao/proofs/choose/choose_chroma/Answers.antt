@@ -1,10 +1,10 @@
-use Rattle.std.proofs.Common.{◌≡◌, ℕ, ◌+◌, [], ◌∷◌, refl, sym, ◌∙◌, ap, subst, arith}
+use Rattle.std.proofs.Common.{◌≡◌, ◌+◌, [], ◌∷◌, refl, ◌∙◌, ap, arith}
 use Rattle.hv_lemmas.specs.Lists.{tabulate}
 use Rattle.hv_plan.specs.declared.offsets.SaoKind.TheVariants.{Off, Edge}
 use Rattle.hv_filter_model.specs.Costs.{first_least}
-use Rattle.hv_filter_model.specs.OffsetDecision.{Block, Chroma, candidate, band_choice, edge_pair, chroma_cost}
+use Rattle.hv_filter_model.specs.OffsetDecision.{Block, candidate, band_choice, edge_pair, chroma_cost}
 use Rattle.hv_sao.specs.Decisions.{block_of, IsMeasured, IsCandidate, IsCountedByEdge}
-use Rattle.hv_sao.specs.Prices.{IsBestPair, off_pair, band_pair}
+use Rattle.hv_sao.specs.Prices.{off_pair, band_pair}
 use Rattle.hv_sao.proofs.PriceLemmas.{pair_first, pair_more, pushed, tabulate_none, chroma_priced, made_is, IsPricedPairOf}
 use Rattle.hv_sao.proofs.choose.choose_chroma.Goals as goal
 

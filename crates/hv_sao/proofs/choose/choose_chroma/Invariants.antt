@@ -1,6 +1,6 @@
 use Rattle.std.proofs.Common.{◌∷◌}
 use Rattle.hv_lemmas.specs.Lists.{tabulate}
-use Rattle.hv_filter_model.specs.OffsetDecision.{band_choice, edge_pair, chroma_cost}
+use Rattle.hv_filter_model.specs.OffsetDecision.{edge_pair, chroma_cost}
 use Rattle.hv_sao.specs.Decisions.{block_of}
 use Rattle.hv_sao.specs.Prices.{IsBestPair, off_pair, band_pair}
 use Rattle.hv_sao.proofs.choose.choose_chroma.Given as goal

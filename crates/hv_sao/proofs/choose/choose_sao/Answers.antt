@@ -3,7 +3,7 @@ use Rattle.hv_plan.specs.declared.offsets.SaoComponent.{SaoComponent}
 use Rattle.hv_plan.specs.declared.offsets.SaoParam.{SaoParam}
 use Rattle.hv_filter_model.specs.Blocks.{luma_side, chroma_side, blocks_over}
 use Rattle.hv_filter_model.specs.SampleAdaptiveOffset.{IsValidComponent}
-use Rattle.hv_filter_model.specs.OffsetDecision.{Block, Chroma, block_of as numbered_block, luma_choice, chroma_choice}
+use Rattle.hv_filter_model.specs.OffsetDecision.{Chroma, block_of as numbered_block, luma_choice, chroma_choice}
 use Rattle.hv_sao.specs.Decisions.{block_of}
 use Rattle.hv_sao.specs.Prices.{pair_of}
 use Rattle.hv_sao.proofs.AreaLemmas.{block_is}
@@ -16,20 +16,20 @@ returns-clause-value c =
     let is : c.div_ceil-across.result ≡ c.args.place.width / 64 + min 1 (c.args.place.width % 64) = c.div_ceil-across.ensures in
     let across : c.div_ceil-across.result ≡ count = omega (arith, is) in
     let luma : block_of c.of-luma.result.deblocked.now c.of-luma.result.input.now c.of-luma.result.area ≡
-        numbered_block luma_side count c.args.place.index c.args.deblocked.now.luma c.args.input.now.luma =
+    numbered_block luma_side count c.args.place.index c.args.deblocked.now.luma c.args.input.now.luma =
     block_is c.of-luma.result.deblocked.now c.of-luma.result.input.now c.args.deblocked.now.luma c.args.input.now.luma c.of-luma.result.area
     luma_side c.div_ceil-across.result count c.args.place.index c.of-luma.ensures.deblocked c.of-luma.ensures.input c.of-luma.ensures.area across in
     let cb : block_of c.of-cb.result.deblocked.now c.of-cb.result.input.now c.of-cb.result.area ≡
-        numbered_block chroma_side count c.args.place.index c.args.deblocked.now.cb c.args.input.now.cb =
+    numbered_block chroma_side count c.args.place.index c.args.deblocked.now.cb c.args.input.now.cb =
     block_is c.of-cb.result.deblocked.now c.of-cb.result.input.now c.args.deblocked.now.cb c.args.input.now.cb c.of-cb.result.area
     chroma_side c.div_ceil-across.result count c.args.place.index c.of-cb.ensures.deblocked c.of-cb.ensures.input c.of-cb.ensures.area across in
     let cr : block_of c.of-cr.result.deblocked.now c.of-cr.result.input.now c.of-cr.result.area ≡
-        numbered_block chroma_side count c.args.place.index c.args.deblocked.now.cr c.args.input.now.cr =
+    numbered_block chroma_side count c.args.place.index c.args.deblocked.now.cr c.args.input.now.cr =
     block_is c.of-cr.result.deblocked.now c.of-cr.result.input.now c.args.deblocked.now.cr c.args.input.now.cr c.of-cr.result.area
     chroma_side c.div_ceil-across.result count c.args.place.index c.of-cr.ensures.deblocked c.of-cr.ensures.input c.of-cr.ensures.area across in
     let pair : pair_of c.choose_chroma-chroma.result ≡
-        chroma_choice c.args.qp (numbered_block chroma_side count c.args.place.index c.args.deblocked.now.cb c.args.input.now.cb)
-        (numbered_block chroma_side count c.args.place.index c.args.deblocked.now.cr c.args.input.now.cr) =
+    chroma_choice c.args.qp (numbered_block chroma_side count c.args.place.index c.args.deblocked.now.cb c.args.input.now.cb)
+    (numbered_block chroma_side count c.args.place.index c.args.deblocked.now.cr c.args.input.now.cr) =
     c.choose_chroma-chroma.ensures ∙ ap₂ (λ b d. chroma_choice c.args.qp b d) cb cr in
     let made : SaoComponent → Chroma → SaoParam = λ y p. record { luma = y; cb = p.cb; cr = p.cr } in
     ap₂ made (c.choose_luma.ensures ∙ ap (λ b. luma_choice c.args.qp b) luma) pair

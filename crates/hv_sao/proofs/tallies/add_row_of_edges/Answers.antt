@@ -1,4 +1,4 @@
-use Rattle.std.proofs.Common.{arith, ◌<◌, ◌≤◌, ◌+◌, ◌-◌, ◌*◌, ◌≡◌, ◌∙◌, ◌-ℤ◌, ap, ap₂, pos, subst, sym, refl, ℕ, length, get_or}
+use Rattle.std.proofs.Common.{arith, ◌<◌, ◌+◌, ◌-◌, ◌*◌, ◌≡◌, ◌∙◌, ◌-ℤ◌, ap, ap₂, pos, subst, sym, ℕ, get_or}
 use Rattle.hv_types.specs.Samples.{sample_at}
 use Rattle.hv_types.proofs.SampleLemmas.{byte_at}
 use Rattle.hv_filter_model.specs.Blocks.{row_locations}

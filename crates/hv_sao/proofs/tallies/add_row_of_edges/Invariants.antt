@@ -8,6 +8,6 @@ use Rattle.hv_sao.proofs.tallies.add_row_of_edges.Given as goal
 abbrev pub invariant-loop-i : goal.invariant-loop-i
 invariant-loop-i l = let b = block_of l.block.deblocked.now l.block.input.now l.block.area in
     let x = l.row.start - l.block.area.left + l.i in record {
-  added : Adds 32 (edge_key_at l.class b) (difference b) (row_locations b.area l.y x) l.fn.tallies l.tallies;
-  few : AreAtMost 32 (64 * l.y + x) l.tallies;
-}
+      added : Adds 32 (edge_key_at l.class b) (difference b) (row_locations b.area l.y x) l.fn.tallies l.tallies;
+      few : AreAtMost 32 (64 * l.y + x) l.tallies;
+    }

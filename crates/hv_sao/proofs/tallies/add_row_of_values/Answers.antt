@@ -1,8 +1,6 @@
-use Rattle.std.proofs.Common.{arith, ◌<◌, ◌+◌, ◌*◌, ◌≡◌, ◌∙◌, ◌-ℤ◌, ap, ap₂, pos, subst, sym, refl, ℕ}
+use Rattle.std.proofs.Common.{arith, ◌+◌, ◌*◌, ◌∙◌, ◌-ℤ◌, ap₂, pos, sym, refl}
 use Rattle.std.proofs.lemmas.Int.{ints}
-use Rattle.hv_filter_model.specs.Blocks.{row_locations}
 use Rattle.hv_filter_model.specs.OffsetDecision.{Block, difference}
-use Rattle.hv_sao.specs.Tallies.{Adds}
 use Rattle.hv_sao.specs.Decisions.{block_of, value_key}
 use Rattle.hv_sao.proofs.AddLemmas.{adds_nothing, adds_sample, at_most_one, at_most_more}
 use Rattle.hv_sao.proofs.tallies.add_row_of_values.Goals as goal

@@ -1,4 +1,4 @@
-use Rattle.std.proofs.Common.{◌+◌, ◌*◌, ◌∙◌, ap, ap₂, arith, sym, refl}
+use Rattle.std.proofs.Common.{◌+◌, ◌*◌, ◌∙◌, ap₂, arith, sym, refl}
 use Rattle.std.specs.Int.{abs_diff}
 use Rattle.hv_filter_model.specs.OffsetDecision.{Block}
 use Rattle.hv_sao.specs.Decisions.{block_of, input_error}

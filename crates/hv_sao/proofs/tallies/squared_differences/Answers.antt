@@ -1,4 +1,4 @@
-use Rattle.std.proofs.Common.{◌+◌, ◌*◌, ◌∙◌, ap, arith, sym, refl}
+use Rattle.std.proofs.Common.{◌+◌, ◌∙◌, ap, arith, sym, refl}
 use Rattle.std.specs.List.{sum_by}
 use Rattle.hv_filter_model.specs.OffsetDecision.{Block}
 use Rattle.hv_sao.specs.Decisions.{block_of, input_error}

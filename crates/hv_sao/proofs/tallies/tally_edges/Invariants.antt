@@ -1,5 +1,5 @@
 use Rattle.std.proofs.Common.{◌*◌, replicate}
-use Rattle.hv_filter_model.specs.OffsetDecision.{Block, difference}
+use Rattle.hv_filter_model.specs.OffsetDecision.{difference}
 use Rattle.hv_sao.specs.Tallies.{Adds, AreAtMost, no_tally}
 use Rattle.hv_sao.specs.Decisions.{block_of, edge_key_at}
 use Rattle.hv_sao.proofs.AddLemmas.{rows_before}

@@ -17,6 +17,8 @@ mod samples;
 mod sides;
 mod tallies;
 mod tally;
+#[cfg(test)]
+mod tests;
 
 pub use apply::apply_sao;
 pub use choose::choose_sao;

@@ -184,6 +184,11 @@ last_row : square_at (site 72 56 0) (marked 128) 8 14 ≡ Coded 40 (Intra 1)
 unfolding marked tabulate address_of
 last_row = refl
 
+-- of 8x16 squares
+last_row_of_16 : square_at (site 64 128 0) (marked 128) 8 23 ≡ Coded 106 (Intra 1)
+unfolding marked tabulate address_of
+last_row_of_16 = refl
+
 below_the_last : square_at (site 72 56 0) (marked 128) 8 15 ≡ Unavailable
 unfolding marked tabulate address_of
 below_the_last = refl

@@ -165,24 +165,3 @@ fn levels_of_0(rt: HostRuntime) {
     assert!(rt; quantise(&[0, 0, 0, 0, 0, 0, 0, -341], 3, 32, false, &mut eight));
     assert_eq!(rt; eight.as_slice(), [0, 0, 0, 0, 0, 0, 0, -1].as_slice());
 }
-
-/// Rows with one number alone, the last of each: the frequencies of the rows are the last column of
-/// the matrix, those with odd numbers below 0, and the columns have the frequency 0 alone.
-#[test]
-fn last_column_alone(rt: HostRuntime) {
-    let mut coefficients = [7i32; 64];
-    forward(
-        &[
-            0, 0, 0, 0, 0, 0, 0, 8, 0, 0, 0, 0, 0, 0, 0, 8, 0, 0, 0, 0, 0, 0, 0, 8, 0, 0, 0, 0, 0,
-            0, 0, 8, 0, 0, 0, 0, 0, 0, 0, 8, 0, 0, 0, 0, 0, 0, 0, 8, 0, 0, 0, 0, 0, 0, 0, 8, 0, 0,
-            0, 0, 0, 0, 0, 8,
-        ],
-        3,
-        &mut coefficients,
-    );
-    let row = [128, -178, 166, -150, 128, -100, 72, -36];
-    assert_eq!(rt; &coefficients[..8], row.as_slice());
-    for i in 8..64usize {
-        assert_eq!(rt; coefficients[i], 0, "at {i}");
-    }
-}

@@ -1,6 +1,5 @@
 -- The bits of a field, as a program puts them digit by digit.
-use Rattle.std.proofs.Common.{◌≡◌, ℕ, zero, suc, ◌+◌, ◌-◌, ◌/◌, ◌%◌, ◌^◌, ◌<◌, List, [], ◌∷◌, ◌++◌, refl, sym, ap, ◌∙◌, arith, append_assoc, pow_pos}
-use Rattle.std.specs.Prelude.{replicate}
+use Rattle.std.proofs.Common.{◌≡◌, ℕ, zero, suc, ◌+◌, ◌-◌, ◌/◌, ◌%◌, ◌^◌, ◌<◌, List, [], ◌∷◌, ◌++◌, sym, ap, ◌∙◌, arith, append_assoc}
 use Rattle.hv_stream_model.specs.Bits.{digits}
 use Rattle.hv_stream_model.specs.Fields.{log2_of, exp_golomb}
 use Rattle.hv_stream_model.proofs.DigitLemmas.{digits-add}

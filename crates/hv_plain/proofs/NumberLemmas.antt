@@ -1,5 +1,5 @@
 -- The number that digits make, and what a change of one digit does to it.
-use Rattle.std.proofs.Common.{◌≡◌, ℕ, zero, suc, ◌+◌, ◌-◌, ◌*◌, ◌/◌, ◌%◌, ◌^◌, ◌<◌, ◌≤◌, List, [], ◌∷◌, ◌++◌, length, get_or, set, refl, sym, ap, ap₂, subst, ◌∙◌, arith, pow-add, pow-suc, pow_pos, length-append, length-set, mul-le-mul_right, All}
+use Rattle.std.proofs.Common.{◌≡◌, ℕ, zero, suc, ◌+◌, ◌-◌, ◌*◌, ◌/◌, ◌%◌, ◌^◌, ◌<◌, ◌≤◌, List, [], ◌∷◌, ◌++◌, length, get_or, set, sym, ap, ap₂, subst, ◌∙◌, arith, pow-add, pow-suc, pow_pos, length-set, mul-le-mul_right, All}
 use Rattle.std.proofs.lemmas.List.Elements.{All-set, All-push}
 use Rattle.hv_stream_model.specs.Bits.{digits, number_of}
 use Rattle.hv_entropy_model.specs.CodeWord.{odd_from}

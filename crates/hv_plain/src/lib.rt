@@ -1,21 +1,32 @@
 //! Plain, slow programs for tests, each with a definition of H.265 as its contract: the arithmetic
 //! decoder bin by bin, the interval of the arithmetic coder, whose low end is never cut, emulation
 //! prevention, and the bits of fields. What a faster program writes is read here, or compared.
+//!
+//! The reader of the levels of a transform block has no such contract yet: that it reads what is
+//! written is tested.
 #![tactic(auto)]
 
+mod alternatives;
 mod bits;
 mod contexts;
 mod digits;
 mod escaping;
 mod fields;
+#[cfg(test)]
+mod generator;
 mod interval;
+#[cfg(test)]
+mod level_tests;
+mod levels;
 mod reader;
 #[cfg(test)]
 mod tests;
 mod variables;
 
+pub use alternatives::{Element, Tally};
 pub use escaping::escape;
 pub use fields::{Field, bits_of_fields, field_bits};
 pub use interval::PlainInterval;
+pub use levels::read_levels;
 pub use reader::{BinReader, Question};
 pub use variables::Variable;

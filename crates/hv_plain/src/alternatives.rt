@@ -3,6 +3,8 @@
 
 ghost use Rattle.std.specs.Prelude.{◌<◌};
 
+use std::io::{self, Print};
+
 /// A syntax element of the levels of a transform block, or a number that is derived for one.
 #[derive(Clone, Copy)]
 pub enum Element {
@@ -91,11 +93,6 @@ impl Element {
             Element::Escape => 16,
         }
     }
-
-    /// Each element with its name and the number of its alternatives, which begin at 0.
-    pub fn all() -> [(Element, &'static str, u8); 17] {
-        ELEMENTS
-    }
 }
 
 /// How often each alternative came, and how many bins were asked for.
@@ -112,6 +109,29 @@ impl Tally {
             counts: [0; 512],
             bins: 0,
         }
+    }
+
+    /// The least count of an alternative.
+    pub fn least(&self) -> u32 {
+        let mut least = u32::MAX;
+        for (element, _name, alternatives) in ELEMENTS {
+            for alternative in 0..alternatives {
+                least = least.min(self.count(element, alternative));
+            }
+        }
+        least
+    }
+
+    /// Prints a line for each alternative: the element's name, the alternative, and how often it
+    /// came.
+    pub fn print(&self, rt: &impl Print) -> io::Result<()> {
+        for (element, name, alternatives) in ELEMENTS {
+            for alternative in 0..alternatives {
+                let count = self.count(element, alternative);
+                println!(rt; "{name} {alternative}: {count}")?;
+            }
+        }
+        Ok(())
     }
 
     /// How often an alternative came.

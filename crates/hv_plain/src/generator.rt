@@ -1,4 +1,4 @@
-//! Blocks of levels from a seed, for tests: every side, component and scan, in eight kinds.
+//! Blocks of levels from a seed: every side, component and scan, in eight kinds.
 
 ghost use Rattle.std.specs.Prelude.{◌<◌};
 

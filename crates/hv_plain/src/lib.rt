@@ -12,13 +12,13 @@ mod contexts;
 mod digits;
 mod escaping;
 mod fields;
-#[cfg(test)]
 mod generator;
 mod interval;
 #[cfg(test)]
 mod level_tests;
 mod levels;
 mod reader;
+mod round_trip;
 #[cfg(test)]
 mod tests;
 mod variables;
@@ -29,4 +29,5 @@ pub use fields::{Field, bits_of_fields, field_bits};
 pub use interval::PlainInterval;
 pub use levels::read_levels;
 pub use reader::{BinReader, Question};
+pub use round_trip::{BLOCKS, read_back};
 pub use variables::Variable;

@@ -1,8 +1,9 @@
 //! The same program as `crates/hv_speed` in plain Rust: loops over rows of fixed length, which the
 //! compiler turns into vector instructions as well as it can, and the writers of bits and of NAL
 //! units as `crates/hv_bits` has them; intra prediction as `crates/hv_intra` has it, and transforms
-//! as `crates/hv_transform` has them.
+//! as `crates/hv_transform` has them. Levels are in a file of their own.
 mod hand;
+mod levels;
 
 use std::env;
 use std::hint::black_box;
@@ -829,6 +830,9 @@ fn inter_filter<const N: usize, const T: usize>(
         for x in 0..N {
             target[x] = rounded_16(sum_16(taps, &rows, x));
         }
+    }
+}
+
 // Scaling and quantisation, as the definitions have them.
 const LEVEL_SCALE: [u32; 6] = [40, 45, 51, 57, 64, 72];
 const FACTORS: [u32; 6] = [26214, 23302, 20560, 18396, 16384, 14564];
@@ -961,18 +965,7 @@ fn checksum_of_inter(luma: bool, size: usize, mv: (i16, i16), rounds: usize) -> 
     sum
 }
 
-// A transform: its name, whether it is an inverse, the side, and how many columns and rows have levels.
-const TRANSFORM_KERNELS: [(&str, bool, u8, usize); 10] = [
-    ("inverse_8", true, 3, 8),
-    ("inverse_16", true, 4, 16),
-    ("inverse_32", true, 5, 32),
-    ("inverse_corner_16", true, 4, 8),
-    ("inverse_corner_32", true, 5, 8),
-    ("inverse_first_16", true, 4, 1),
-    ("inverse_first_32", true, 5, 1),
-    ("forward_8", false, 3, 8),
-    ("forward_16", false, 4, 16),
-    ("forward_32", false, 5, 32),
+#[inline(never)]
 fn quantise(coefficients: &[i32], log2: u8, qp: u8, intra: bool, out: &mut [i16]) -> bool {
     let shift = 21 + u32::from(qp) / 6 - u32::from(log2);
     let factor = FACTORS[usize::from(qp % 6)];
@@ -1106,5 +1099,6 @@ fn main() -> ExitCode {
             println!("{known} {sum}");
         }
     }
+    levels::print_checksums(name, rounds);
     ExitCode::SUCCESS
 }

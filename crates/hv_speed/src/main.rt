@@ -7,6 +7,7 @@ mod bits;
 mod inter;
 mod intra;
 mod kernel;
+mod levels;
 mod pictures;
 mod streams;
 mod transforms;
@@ -17,6 +18,7 @@ use hv_types::NoMemory;
 use inter::{InterKernel, Motion};
 use intra::{IntraKernel, Lines};
 use kernel::Kernel;
+use levels::{Blocks, LevelKernel};
 use pictures::Pictures;
 use std::alloc::Global;
 use std::env;
@@ -169,6 +171,38 @@ fn print_checksums_of_transforms(
     Ok(())
 }
 
+/// The sum of what `rounds` rounds gave, modulo 2^64.
+fn checksum_of_levels(
+    alloc: Global,
+    kernel: LevelKernel,
+    rounds: u32,
+    blocks: &Blocks,
+) -> Result<u64, NoMemory> {
+    let mut sum = 0u64;
+    for _ in 0..rounds {
+        sum = sum.wrapping_add(kernel.run(alloc, blocks)?);
+    }
+    Ok(sum)
+}
+
+/// As `print_checksums`, for kernels of levels.
+fn print_checksums_of_levels(
+    rt: &impl Print,
+    alloc: Global,
+    kernels: &[LevelKernel],
+    rounds: u32,
+) -> anyhow::Result<()> {
+    for kernel in kernels {
+        let blocks = kernel.blocks(alloc)?;
+        let Ok(sum) = checksum_of_levels(alloc, *kernel, rounds, &blocks) else {
+            bail!("not enough memory");
+        };
+        let name = kernel.name();
+        println!(rt; "{name} {sum}")?;
+    }
+    Ok(())
+}
+
 fn main(rt: HostRuntime) -> anyhow::Result<()> {
     let mut words = env::args(&rt)?.skip(1);
     let (Some(name), Some(rounds)) = (words.next(), words.next()) else {
@@ -182,7 +216,8 @@ fn main(rt: HostRuntime) -> anyhow::Result<()> {
         print_checksums_of_bits(&rt, rt.alloc(), &BitKernel::ALL, rounds)?;
         print_checksums_of_intra(&rt, &IntraKernel::ALL, rounds)?;
         print_checksums_of_inter(&rt, rt.alloc(), &InterKernel::ALL, rounds)?;
-        return print_checksums_of_transforms(&rt, rt.alloc(), &TransformKernel::ALL, rounds);
+        print_checksums_of_transforms(&rt, rt.alloc(), &TransformKernel::ALL, rounds)?;
+        return print_checksums_of_levels(&rt, rt.alloc(), &LevelKernel::ALL, rounds);
     }
     if let Some(kernel) = BitKernel::named(name.as_str()) {
         return print_checksums_of_bits(&rt, rt.alloc(), &[kernel], rounds);
@@ -195,6 +230,9 @@ fn main(rt: HostRuntime) -> anyhow::Result<()> {
     }
     if let Some(kernel) = TransformKernel::named(name.as_str()) {
         return print_checksums_of_transforms(&rt, rt.alloc(), &[kernel], rounds);
+    }
+    if let Some(kernel) = LevelKernel::named(name.as_str()) {
+        return print_checksums_of_levels(&rt, rt.alloc(), &[kernel], rounds);
     }
     match Kernel::named(name.as_str()) {
         Some(kernel) => print_checksums(&rt, rt.alloc(), &[kernel], rounds),

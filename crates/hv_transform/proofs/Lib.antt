@@ -20,10 +20,3 @@ pub mod OrderLemmas
 pub mod MeanLemmas
 pub mod InverseLaneLemmas
 pub mod CornerLemmas
-pub mod LevelLemmas
-pub mod FoldLemmas
-pub mod RowLaneLemmas
-pub mod RowSumLemmas
-pub mod ColumnLaneLemmas
-pub mod ForwardLaneLemmas
-pub mod ScaleLemmas

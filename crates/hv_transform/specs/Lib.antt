@@ -1,6 +1,4 @@
 pub mod Rows
 pub mod Ranges
-pub mod Levels
 pub mod Passes
 pub mod Lanes
-pub mod Forward

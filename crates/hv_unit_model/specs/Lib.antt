@@ -6,3 +6,4 @@ pub mod Validity
 pub mod BlockSyntax
 pub mod Bins
 pub mod UnitLaws
+pub mod Plans

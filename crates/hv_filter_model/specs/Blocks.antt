@@ -41,7 +41,8 @@ pub record Location : Type 0 where
 
 -- the first so many locations of row y of an area
 abbrev pub row_locations : Area → ℕ → ℕ → List Location
-row_locations area y columns = tabulate columns (λ x. record { x = area.left + x; y = area.top + y })
+row_locations area y columns =
+    tabulate columns (λ x. record { x = area.left + x; y = area.top + y })
 
 -- the locations of an area, by rows
 abbrev pub locations : Area → List Location

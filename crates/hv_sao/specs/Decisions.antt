@@ -121,7 +121,8 @@ pub record IsCounted (b : Block) (tallies : List Tally) (errors : ℕ) : Type 0 
   pub measured : IsMeasured b errors
 
 -- the same by edges of a class
-pub record IsCountedByEdge (class : ℕ) (b : Block) (tallies : List Tally) (errors : ℕ) : Type 0 where
+pub record IsCountedByEdge
+    (class : ℕ) (b : Block) (tallies : List Tally) (errors : ℕ) : Type 0 where
   pub counts : Counts 32 (edge_key_at class b) b tallies
   pub measured : IsMeasured b errors
 

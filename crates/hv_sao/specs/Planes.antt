@@ -24,7 +24,8 @@ number_at numbers i = slice_index_or numbers i 0
 -- `first` on
 abbrev pub block_sample : Component → List SaoParam → ℕ → ℕ → Plane → ℕ → ℕ → ℕ
 block_sample component choices first side plane y x =
-    sao_sample (component_of component (slice_index_or choices (first + x / side) off_param)) plane x y
+    sao_sample
+    (component_of component (slice_index_or choices (first + x / side) off_param)) plane x y
 
 -- column x of row y, with the choice of its block
 abbrev pub plane_sample : ℕ → ℕ → List SaoComponent → Plane → ℕ → ℕ → ℕ
@@ -34,4 +35,5 @@ plane_sample side across choices plane x y =
 -- a plane of the sides of another has f x y in column x of row y, in the first rows
 pub record HasRows (rows : ℕ) (f : ℕ → ℕ → ℕ) (like plane : Plane) : Type 0 where
   pub whole : IsPlane like.width like.height plane
-  pub samples : (x y : ℕ) → x < like.width → y < rows → y < like.height → sample_at plane x y ≡ f x y
+  pub samples :
+      (x y : ℕ) → x < like.width → y < rows → y < like.height → sample_at plane x y ≡ f x y

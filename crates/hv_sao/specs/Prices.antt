@@ -21,7 +21,9 @@ pub record IsMade (b : Block) (c : Candidate) : Type 0 where
   pub bins : c.bins ≡ own_bins c.component
 
 -- the first of least cost among a component and others
-pub record IsBest (b : Block) (f : SaoComponent → ℕ) (x : SaoComponent) (xs : List SaoComponent) (p : Priced) : Type 0 where
+pub record IsBest
+    (b : Block) (f : SaoComponent → ℕ) (x : SaoComponent) (xs : List SaoComponent)
+    (p : Priced) : Type 0 where
   pub best : p.candidate.component ≡ first_least f x xs
   pub cost : p.cost ≡ pos (f p.candidate.component)
   pub made : IsMade b p.candidate
@@ -29,7 +31,8 @@ pub record IsBest (b : Block) (f : SaoComponent → ℕ) (x : SaoComponent) (xs 
 abbrev pub pair_of : PricedPair → Chroma
 pair_of p = record { cb = p.cb.component; cr = p.cr.component }
 
-pub record IsBestPair (f : Chroma → ℕ) (x : Chroma) (xs : List Chroma) (p : PricedPair) : Type 0 where
+pub record IsBestPair
+    (f : Chroma → ℕ) (x : Chroma) (xs : List Chroma) (p : PricedPair) : Type 0 where
   pub best : pair_of p ≡ first_least f x xs
   pub cost : p.cost ≡ pos (f (pair_of p))
 

@@ -9,7 +9,8 @@ use Rattle.hv_filter_model.specs.SampleAdaptiveOffset.{bandTable, edge_of, edgeI
 abbrev pub IsRow : (ℕ → ℕ) → List ℕ → Type 0
 IsRow f row = (i : ℕ) → i < length row → slice_index_or row i 0 ≡ f i
 
--- from place `lead` on there are f 0, f 1 and so on, `count` numbers; every other number is as before
+-- from place `lead` on there are f 0, f 1 and so on, `count` numbers; every other number is as
+-- before
 pub record HasPart (lead count : ℕ) (f : ℕ → ℕ) (old new : List ℕ) : Type 0 where
   pub part : (i : ℕ) → i < count → slice_index_or new (lead + i) 0 ≡ f i
   pub before : (k : ℕ) → k < lead → slice_index_or new k 0 ≡ slice_index_or old k 0

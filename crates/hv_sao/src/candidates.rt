@@ -90,7 +90,8 @@ fn from_offsets(kind: SaoKind, offsets: [Offset; 4], squares: u32) -> Candidate
     requires fourth { unsigned_abs (growth_at_index offsets 3) ≤ 2 ^ 27 }
     ensures component { result.component ≡ component_from kind offsets }
     ensures squares { result.squares ≡ pos squares +ℤ
-        (growth_at_index offsets 0 +ℤ growth_at_index offsets 1 +ℤ growth_at_index offsets 2 +ℤ growth_at_index offsets 3) }
+        (growth_at_index offsets 0 +ℤ growth_at_index offsets 1 +ℤ
+        growth_at_index offsets 2 +ℤ growth_at_index offsets 3) }
     ensures bins { result.bins ≡ own_bins result.component }
 {
     let [a, b, c, d] = offsets;

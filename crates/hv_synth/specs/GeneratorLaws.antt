@@ -6,8 +6,8 @@ use Rattle.hv_types.specs.Video.{IsPicture, HasBytes, raw, pictures, rest}
 use Rattle.hv_types.specs.declared.settings.Settings.{Settings}
 use Rattle.hv_synth.specs.Generator.{generated}
 
--- The video is as long as was asked, of whole pictures of bytes. Its bytes read as its pictures, and
--- none is left over.
+-- The video is as long as was asked, of whole pictures of bytes. Its bytes read as its pictures,
+-- and none is left over.
 pub record IsVideo (s : Settings) : Type 0 where
   pub count : length (generated s) ≡ pictures_asked s.synth
   pub whole : All (IsPicture s.width s.height) (generated s)

@@ -7,6 +7,7 @@ use Rattle.hv_group_model.specs.Structure.{Coded, coded, Kept, kept, kept_among,
 use Rattle.hv_group_model.specs.Lives.{until_in}
 use Rattle.hv_group_model.proofs.NumberListLemmas.{length-falling, length-rising, rising_at, rising_push}
 use Rattle.hv_lemmas.proofs.ComparisonLemmas.{zero_lt_suc}
+use Rattle.hv_lemmas.proofs.BooleanLemmas.{one_at_most}
 use Rattle.hv_decision.specs.declared.coded.CodedPicture.{CodedPicture}
 use Rattle.hv_decision.specs.declared.row.Life.{Life}
 use Rattle.hv_decision.specs.declared.row.SetEntry.{SetEntry}
@@ -251,10 +252,6 @@ length_first : {A : Type 0} (b : Bool) (x : A) (rest : List A) →
     length (cond b (x ∷ []) [] ++ rest) ≡ cond b 1 0 + length rest
 length_first true x rest = omega arith
 length_first false x rest = omega arith
-
-one_at_most : (b : Bool) → cond b 1 0 ≤ 1
-one_at_most true = omega arith
-one_at_most false = omega arith
 
 pub length-kept_among : (order : List Coded) (place picture : ℕ) (others : List ℕ) →
     length (kept_among order place picture others) ≤ length others

@@ -1,10 +1,11 @@
 -- What an oracle answers, a script reads: from a list of bins, and from their code word.
-use Rattle.std.proofs.Common.{◌≡◌, ℕ, Bool, true, false, List, [], ◌∷◌, ◌++◌, refl, sym, ap, subst, eq-eqb, IsSomeAnd}
+use Rattle.std.proofs.Common.{◌≡◌, ℕ, Bool, true, List, [], ◌∷◌, ◌++◌, refl, sym, ap, subst, eq-eqb, IsSomeAnd}
 use Rattle.std.specs.Prelude.{Option, Some}
 use Rattle.hv_types.specs.declared.bins.SliceKind.{SliceKind}
 use Rattle.hv_types.specs.Bins.{Question, Context, Bypass, Terminate, Bin}
 use Rattle.hv_tables.specs.ContextTables.{offset_of}
 use Rattle.hv_lemmas.specs.Booleans.{same}
+use Rattle.hv_lemmas.proofs.BooleanLemmas.{same_self}
 use Rattle.hv_entropy_model.specs.Contexts.{first_variables}
 use Rattle.hv_entropy_model.specs.CodeWord.{IsEnded, word}
 use Rattle.hv_entropy_model.specs.Oracle.{Oracle, Listed, same_question, answer, option_coded, read, after_bins, bits_left}
@@ -15,10 +16,6 @@ use Rattle.hv_entropy_model.proofs.ReadingLemmas.{IsBegun, word_from_read, ended
 -- the oracle answers the questions of these bins with their values, and is then the other one
 abbrev pub GivesBins : Oracle → List Bin → Oracle → Type 0
 GivesBins = Gives Question Bool Oracle answer
-
-same_self : (v : Bool) → same v v ≡ true
-same_self true = refl
-same_self false = refl
 
 same_question_self : (q : Question) → same_question q q ≡ true
 same_question_self (Context c) =

@@ -1,10 +1,10 @@
 -- The filters over a window, as the sums over its columns and rows.
-use Rattle.std.proofs.Common.{◌≡◌, ℕ, zero, suc, ◌+◌, ◌-◌, ◌*◌, ◌/◌, ◌%◌, ◌<◌, ◌≤◌, List, ℤ, pos, sym, ◌∙◌, ap, arith, length, drop, slice_index_or, nat_eq, false, take, take_all, length-drop}
-use Rattle.std.proofs.lemmas.Bool.{ne_eqb}
+use Rattle.std.proofs.Common.{◌≡◌, ℕ, zero, suc, ◌+◌, ◌-◌, ◌*◌, ◌/◌, ◌%◌, ◌<◌, ◌≤◌, List, ℤ, pos, sym, ◌∙◌, ap, arith, length, drop, slice_index_or, take, take_all, length-drop}
 use Rattle.std.proofs.Math.Nat.{add-mul, mul-le-mul_right}
 use Rattle.std.proofs.lemmas.Nat.{mod_below, div-add-mod'}
 use Rattle.std.proofs.lemmas.List.{get_or-drop}
 use Rattle.std.specs.Int.{int_shr}
+use Rattle.hv_lemmas.proofs.ComparisonLemmas.{other_than_0}
 use Rattle.hv_inter_model.specs.Interpolation.{weighted, weighted_sample}
 use Rattle.hv_types.specs.Windows.{HoldsBlock}
 use Rattle.hv_interp.specs.Windows.{sample_of}
@@ -16,9 +16,6 @@ use Rattle.hv_interp.proofs.PlaceLemmas.{place_is}
 behind : (w : List ℕ) (m at i j stride : ℕ) → m + at ≡ j * stride + i →
     pos (slice_index_or (drop m w) at 0) ≡ sample_of w stride i j
 behind w m at i j stride e = ap pos (get_or-drop m w at 0 ∙ ap (λ k. slice_index_or w k 0) e)
-
-other_than_0 : (n : ℕ) → 0 < n → nat_eq n 0 ≡ false
-other_than_0 n some = ne_eqb n 0 (λ e. omega (arith, e, some))
 
 -- the samples behind the first ones
 pub rest_is : (m : ℕ) (w : List ℕ) → take (length w - m) (drop m w) ≡ drop m w

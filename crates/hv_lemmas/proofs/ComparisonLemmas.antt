@@ -1,5 +1,5 @@
 -- Tests of numbers, and truth values that they give: what they are where the numbers' order is known.
-use Rattle.std.proofs.Common.{◌≡◌, ℕ, suc, ◌<◌, ◌≤◌, Bool, true, false, refl, arith, nat_lt, ◌||◌}
+use Rattle.std.proofs.Common.{◌≡◌, ℕ, suc, ◌<◌, ◌≤◌, Bool, true, false, refl, arith, nat_eq, nat_lt, ◌||◌}
 use Rattle.std.proofs.lemmas.Bool.Decides.{nat_tests}
 
 pub lt_below : (a b : ℕ) → a < b → nat_lt a b ≡ true
@@ -20,3 +20,6 @@ zero_lt_suc a = grind (arith, nat_tests)
 pub or_true : (b : Bool) → (b || true) ≡ true
 or_true true = refl
 or_true false = refl
+
+pub other_than_0 : (n : ℕ) → 0 < n → nat_eq n 0 ≡ false
+other_than_0 n some = grind (arith, nat_tests)

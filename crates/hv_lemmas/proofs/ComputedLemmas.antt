@@ -1,8 +1,9 @@
 -- What is computed once over all elements of a list, or over all numbers below a bound, holds of each.
-use Rattle.std.proofs.Common.{◌≡◌, ℕ, zero, suc, ◌<◌, ◌≤◌, Bool, true, false, ◌&&◌, ◌||◌, List, [], ◌∷◌, length, arith, nat_lt, slice_index_or, below_more}
+use Rattle.std.proofs.Common.{◌≡◌, ℕ, zero, suc, ◌<◌, ◌≤◌, Bool, true, ◌&&◌, ◌||◌, List, [], ◌∷◌, length, arith, nat_lt, slice_index_or, below_more}
 use Rattle.std.specs.List.{list_all}
 use Rattle.std.proofs.lemmas.Bool.{and_parts}
 use Rattle.hv_lemmas.proofs.ComparisonLemmas.{lt_not_below}
+use Rattle.hv_lemmas.proofs.BooleanLemmas.{or_right}
 
 -- the test holds of 0, 1 and so on: of n numbers
 abbrev pub all_below : ℕ → (ℕ → Bool) → Bool
@@ -15,10 +16,6 @@ holds_below (suc n) p h i below =
     let parts : (p n ≡ true) × (all_below n p ≡ true) = and_parts (p n) (all_below n p) h in
     let Holds : ℕ → Type 0 = λ k. p k ≡ true in
     below_more Holds n (λ k less. holds_below n p parts.1 k less) parts.0 i (omega arith)
-
-or_right : (b c : Bool) → b || c ≡ true → b ≡ false → c ≡ true
-or_right true c either off = absurd cc
-or_right false c either off = either
 
 -- the same over the numbers from one bound on
 pub holds_between : (least n : ℕ) (p : ℕ → Bool) → all_below n (λ i. nat_lt i least || p i) ≡ true →
@@ -33,3 +30,11 @@ holds_at p [] i d all below = absurd (omega arith)
 holds_at p (x ∷ xs) zero d all below = (and_parts (p x) (list_all p xs) all).0
 holds_at p (x ∷ xs) (suc i) d all below =
     holds_at p xs i d (and_parts (p x) (list_all p xs) all).1 (omega arith)
+
+-- what holds of four numbers, one by one
+pub each_of_four : (P : ℕ → Type 0) → P 0 → P 1 → P 2 → P 3 → (i : ℕ) → i < 4 → P i
+each_of_four P a b c d zero below = a
+each_of_four P a b c d (suc zero) below = b
+each_of_four P a b c d (suc (suc zero)) below = c
+each_of_four P a b c d (suc (suc (suc zero))) below = d
+each_of_four P a b c d (suc (suc (suc (suc i)))) below = absurd (omega arith)

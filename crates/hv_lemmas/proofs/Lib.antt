@@ -1,3 +1,4 @@
+pub mod BooleanLemmas
 pub mod ComparisonLemmas
 pub mod ComputedLemmas
 pub mod ListLemmas

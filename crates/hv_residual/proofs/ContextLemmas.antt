@@ -1,7 +1,8 @@
 -- Contexts of sig_coeff_flag (9.3.4.2.5): which of its cases holds, and what tables say of it.
-use Rattle.std.proofs.Common.{◌≡◌, ◌≢◌, ℕ, zero, suc, ◌+◌, ◌<◌, Bool, true, false, cond, nat_eq, nat_lt, ◌||◌, List, map, get_or, refl, ap, ◌∙◌, arith}
+use Rattle.std.proofs.Common.{◌≡◌, ◌≢◌, ℕ, zero, suc, ◌+◌, ◌<◌, Bool, true, cond, nat_lt, ◌||◌, List, map, get_or, refl, ap, ◌∙◌, arith}
 use Rattle.std.proofs.lemmas.List.{get_or-map}
 use Rattle.std.proofs.lemmas.Bool.Decides.{nat_tests}
+use Rattle.std.proofs.lemmas.Bool.{ne_eqb}
 use Rattle.hv_lemmas.specs.Lists.{tabulate}
 use Rattle.hv_lemmas.proofs.ComputedLemmas.{all_below, holds_between}
 use Rattle.hv_plan.specs.declared.prediction.Scan.{Scan}
@@ -42,19 +43,16 @@ not_all_first scan x y (suc i) h apart e =
     let p = not_first scan (suc i) (omega arith) h in absurd (omega (arith, p, e))
 
 -- ---- the cases of sigCtx
-not_equal : (n m : ℕ) → n ≢ m → nat_eq n m ≡ false
-not_equal n m h = grind (arith, nat_tests, h)
-
 pub at_first : (b : TransformBlock) (right below : Bool) (S P : Position) → b.log2TrafoSize ≢ 2 →
     S.x + S.y + P.x + P.y ≡ 0 → sigCtx b right below S P ≡ 0
 at_first b right below S P side e =
-    rw (not_equal b.log2TrafoSize 2 side) (rw e refl)
+    rw (ne_eqb b.log2TrafoSize 2 side) (rw e refl)
 
 pub not_at_first : (b : TransformBlock) (right below : Bool) (S P : Position) →
     b.log2TrafoSize ≢ 2 → S.x + S.y + P.x + P.y ≢ 0 → sigCtx b right below S P ≡
     by_neighbours right below P + cond b.is_luma (added_in_luma b S) (added_in_chroma b)
 not_at_first b right below S P side e =
-    rw (not_equal b.log2TrafoSize 2 side, not_equal (S.x + S.y + P.x + P.y) 0 e) refl
+    rw (ne_eqb b.log2TrafoSize 2 side, ne_eqb (S.x + S.y + P.x + P.y) 0 e) refl
 
 -- ---- an entry of a table along a scan
 pub along_scan : (f : Position → ℕ) (scan : Scan) (table : List ℕ) (i : ℕ) → i < 16 →

@@ -5,7 +5,9 @@ use Rattle.std.specs.Int.Count.{count_leading_zeros}
 use Rattle.std.proofs.lemmas.Nat.{leading_top}
 use Rattle.std.proofs.lemmas.List.{length-map}
 use Rattle.std.proofs.lemmas.Bool.Decides.{nat_tests}
+use Rattle.std.proofs.lemmas.Bool.{leb-true}
 use Rattle.hv_lemmas.proofs.ComparisonLemmas.{lt_below, lt_not_below, zero_lt_suc}
+use Rattle.hv_residual_model.proofs.LevelLemmas.{as_many_signs}
 use Rattle.hv_types.specs.declared.bins.CtxTable.TheVariants.{LastX, LastY}
 use Rattle.hv_residual_model.specs.UnitBins.{UnitQuestion, InBypass, UnitBin, unit_bin}
 use Rattle.hv_residual_model.specs.Binarization.{fixed_length_bins, truncated_unary_bins, exp_golomb_bins, bypass_at, remaining_bins}
@@ -140,16 +142,13 @@ sig_all (level ∷ []) h = absurd (omega arith)
 sig_all (level ∷ next ∷ levels) h =
     all_case level next levels (is_significant level) refl h (sig_all (next ∷ levels))
 
-at_most : (n m : ℕ) → nat_le n m ≡ true → n ≤ m
-at_most n m h = grind (arith, nat_tests, h)
-
 more : (n m : ℕ) → nat_le n m ≡ false → m < n
 more n m h = grind (arith, nat_tests, h)
 
 pub inferred_count : (levels : List ℤ) (sure : Bool) →
     (sure && nat_le (length levels) (zeros_before levels + 1)) ≡ true →
     sig_count levels sure ≡ length levels - 1
-inferred_count levels true h = sig_inferred levels (at_most _ _ h)
+inferred_count levels true h = sig_inferred levels (leb-true _ _ h)
 inferred_count levels false h = absurd cc
 
 pub full_count : (levels : List ℤ) (sure : Bool) →
@@ -177,11 +176,6 @@ signs_case : (b : Bool) (m : ℕ) (v : Bool) (ms : List ℕ) (vs : List Bool) �
 signs_case true m v ms vs e = ap suc e
 signs_case false m v ms vs e = e
 
-pub signs_count : (levels : List ℤ) → length (signs levels) ≡ length (magnitudes levels)
-signs_count [] = refl
-signs_count (level ∷ levels) =
-    signs_case (is_significant level) _ _ (magnitudes levels) (signs levels) (signs_count levels)
-
 pub level_length : (b : TransformBlock) (set : ℕ) (levels : List ℤ) →
     length (level_bins b set levels) ≡ level_count levels
 unfolding level_bins level_count
@@ -197,7 +191,7 @@ level_length b set levels =
     let n1 : length first ≡ min 8 (length m) = greater1_count b set 8 m 1 in
     let n2 : length second ≡ cond (any (greater1_values 8 m)) 1 0 =
     greater2_case b set m (any (greater1_values 8 m)) refl in
-    let n3 : length third ≡ length m = length-map (signs levels) (unit_bin InBypass) ∙ signs_count levels in
+    let n3 : length third ≡ length m = length-map (signs levels) (unit_bin InBypass) ∙ as_many_signs levels in
     rw (a, c, d, n1, n2, n3) refl
 
 -- by what the code computed

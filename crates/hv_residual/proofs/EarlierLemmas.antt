@@ -2,7 +2,8 @@
 use Rattle.std.proofs.Common.{add-one, drop, take, ◌≡◌, ◌≤◌, ◌<◌, ℕ, zero, suc, ◌+◌, ◌-◌, ◌*◌, Bool, true, false, cond, nat_eq, nat_lt, ◌&&◌, List, [], ◌∷◌, ◌++◌, ℤ, length, replicate, get_or, refl, ap, sym, ◌∙◌, arith, append_assoc}
 use Rattle.std.proofs.Math.Seq.{take-length}
 use Rattle.std.specs.Bool.{if◌then◌else◌}
-use Rattle.std.proofs.lemmas.Bool.Decides.{nat_tests}
+use Rattle.std.proofs.Math.Dec.{eqb-suc-zero}
+use Rattle.hv_residual_model.proofs.SubBlockLemmas.{as_many}
 use Rattle.hv_residual_model.specs.ScanOrder.{Position}
 use Rattle.hv_residual_model.specs.ResidualContexts.{TransformBlock, ctxSet}
 use Rattle.hv_residual_model.specs.ResidualSyntax.{Earlier, had_greater1_after, sub_block_at, right_flag, below_flag, positions, any}
@@ -37,14 +38,11 @@ any_is zero ms = refl
 any_is (suc k) [] = refl
 any_is (suc k) (m ∷ ms) = any_case k m ms (nat_lt 1 m) refl (any_is k ms)
 
-more_than_none : (n : ℕ) → nat_eq (suc n) 0 ≡ false
-more_than_none n = grind (arith, nat_tests)
-
 had_case : (had : Bool) (k : ℕ) (ms : List ℕ) →
     (if nat_eq (length ms) 0 then had else nat_lt 1 (first_above_1 (suc k) ms)) ≡
     had_greater1_after had (greater1_values (suc k) ms)
 had_case had k [] = refl
-had_case had k (m ∷ ms) = rw (more_than_none (length ms)) (sym (any_is (suc k) (m ∷ ms)))
+had_case had k (m ∷ ms) = rw (eqb-suc-zero (length ms)) (sym (any_is (suc k) (m ∷ ms)))
 
 pub had_is : (had : Bool) (levels : List ℤ) (m : List ℕ) (count first : ℕ) → m ≡ magnitudes levels →
     count ≡ length (magnitudes levels) → first ≡ first_above_1 8 m →
@@ -185,11 +183,6 @@ unfolding downwards
 length-downwards f zero = refl
 length-downwards f (suc n) = ap suc (length-downwards f n)
 
-length-levels_below : (b : TransformBlock) (levels : List ℤ) (s n : ℕ) →
-    length (levels_below b levels s n) ≡ n
-unfolding levels_below
-length-levels_below b levels s n = length-downwards (λ i. level_at b levels (16 * s + i)) n
-
 -- the same as the code cuts them off
 pub cut_levels : (b : TransformBlock) (levels : List ℤ) (s n k : ℕ) (these : List ℤ) → n + k ≡ 16 →
     these ≡ levels_below b levels s 16 → take (16 - k) (drop k these) ≡ levels_below b levels s n
@@ -198,5 +191,5 @@ cut_levels b levels s n k these h e =
     let d : drop k these ≡ levels_below b levels s n =
     rw ek (lower_levels b levels s n these (omega arith) e) in
     let m : 16 - k ≡ length (levels_below b levels s n) =
-    sym (length-levels_below b levels s n ∙ omega arith) in
+    sym (as_many b levels s n ∙ omega arith) in
     rw (d, m) (take-length (levels_below b levels s n))

@@ -1,7 +1,7 @@
 -- The last significant position as it is coded (7.3.8.11, 7.4.9.11).
 use Rattle.std.proofs.Common.{◌≡◌, ℕ, zero, suc, ◌+◌, ◌-◌, ◌*◌, ◌^◌, ◌<◌, ◌≤◌, Bool, true, nat_le, List, ◌++◌, get_or, refl, ap, ◌∙◌, arith}
 use Rattle.std.proofs.Math.Pow.{pow_mono}
-use Rattle.std.proofs.lemmas.Bool.Decides.{nat_tests}
+use Rattle.std.proofs.lemmas.Bool.{leb-true}
 use Rattle.hv_lemmas.specs.Lists.{tabulate}
 use Rattle.hv_lemmas.proofs.ComputedLemmas.{all_below, holds_below}
 use Rattle.hv_lemmas.proofs.ListLemmas.{get_or-tabulate}
@@ -35,22 +35,19 @@ fit_32 : all_below 32 (fits 5) ≡ true
 unfolding fits prefix_of
 fit_32 = refl
 
-at_most : (n m : ℕ) → nat_le n m ≡ true → n ≤ m
-at_most n m h = grind (arith, nat_tests, h)
-
 pub prefix_fits : (log2 coordinate : ℕ) → 2 ≤ log2 → log2 ≤ 5 → coordinate < 2 ^ log2 →
     prefix_of coordinate ≤ 2 * log2 - 1
 unfolding fits
 prefix_fits zero coordinate least most h = absurd (omega arith)
 prefix_fits (suc zero) coordinate least most h = absurd (omega arith)
 prefix_fits (suc (suc zero)) coordinate least most h =
-    at_most _ _ (holds_below 4 (fits 2) fit_4 coordinate h)
+    leb-true _ _ (holds_below 4 (fits 2) fit_4 coordinate h)
 prefix_fits (suc (suc (suc zero))) coordinate least most h =
-    at_most _ _ (holds_below 8 (fits 3) fit_8 coordinate h)
+    leb-true _ _ (holds_below 8 (fits 3) fit_8 coordinate h)
 prefix_fits (suc (suc (suc (suc zero)))) coordinate least most h =
-    at_most _ _ (holds_below 16 (fits 4) fit_16 coordinate h)
+    leb-true _ _ (holds_below 16 (fits 4) fit_16 coordinate h)
 prefix_fits (suc (suc (suc (suc (suc zero))))) coordinate least most h =
-    at_most _ _ (holds_below 32 (fits 5) fit_32 coordinate h)
+    leb-true _ _ (holds_below 32 (fits 5) fit_32 coordinate h)
 prefix_fits (suc (suc (suc (suc (suc (suc n)))))) coordinate least most h = absurd (omega arith)
 
 pub below_32 : (log2 x : ℕ) → log2 ≤ 5 → x < 2 ^ log2 → x < 32

@@ -4,9 +4,8 @@ use Rattle.std.specs.List.{list_all}
 use Rattle.std.proofs.Math.Pow.{pow_mono}
 use Rattle.std.proofs.Math.Nat.{mul-le-mul_right}
 use Rattle.std.proofs.Math.ListN.{get_or-map}
-use Rattle.std.proofs.lemmas.Bool.{and_parts}
+use Rattle.std.proofs.lemmas.Bool.{and_parts, ltb-true}
 use Rattle.std.proofs.lemmas.List.{length-map}
-use Rattle.std.proofs.lemmas.Bool.Decides.{nat_tests}
 use Rattle.hv_lemmas.specs.Lists.{tabulate}
 use Rattle.hv_lemmas.proofs.ComputedLemmas.{all_below, holds_at, holds_below}
 use Rattle.hv_plan.specs.declared.prediction.Scan.{Scan}
@@ -59,16 +58,13 @@ pub length_of_table : (scan : Scan) (log2 : ℕ) (table : List ℕ) → log2 ≤
 length_of_table scan log2 table h order =
     sym (length-map table place_of) ∙ ap length (sym order) ∙ length-scan_order scan log2 h
 
-less : (a b : ℕ) → nat_lt a b ≡ true → a < b
-less a b h = grind (arith, nat_tests, h)
-
 pub place_inside : (log2 : ℕ) (table : List ℕ) (i : ℕ) → list_all (is_place log2) table ≡ true →
     i < length table → (get_or table i 0 % 8 < 2 ^ log2) × (get_or table i 0 / 8 < 2 ^ log2)
 place_inside log2 table i all h =
     let one : is_place log2 (get_or table i 0) ≡ true = holds_at (is_place log2) table i 0 all h in
     let parts = and_parts (nat_lt (get_or table i 0 % 8) (2 ^ log2))
     (nat_lt (get_or table i 0 / 8) (2 ^ log2)) one in
-    (less _ _ parts.0, less _ _ parts.1)
+    (ltb-true _ _ parts.0, ltb-true _ _ parts.1)
 
 pub place_is : (scan : Scan) (log2 : ℕ) (table : List ℕ) (i : ℕ) →
     scan_order scan log2 ≡ map place_of table → place_of (get_or table i 0) ≡ position_at scan log2 i
@@ -119,4 +115,4 @@ unfolding in_square
 inside_sub_block scan i h =
     let parts = and_parts (nat_lt (position_at scan 2 i).x 4) (nat_lt (position_at scan 2 i).y 4)
     (holds_below 16 (in_square scan) (all_in_square scan) i h) in
-    (less _ _ parts.0, less _ _ parts.1)
+    (ltb-true _ _ parts.0, ltb-true _ _ parts.1)

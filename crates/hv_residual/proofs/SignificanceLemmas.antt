@@ -1,10 +1,10 @@
 -- The levels of a sub-block that aren't 0, gathered one after another.
-use Rattle.std.proofs.Common.{◌&&◌, not, nat_eq, length-drop, ◌≡◌, ◌≤◌, ◌<◌, ◌+◌, List, [], ◌∷◌, ◌++◌, ℕ, suc, Bool, true, false, cond, ℤ, pos, arith, sym, refl, ap, ◌∙◌, length, drop, take, set, get_or, append_assoc, append-nil, add-zero, drop_of_length-le}
+use Rattle.std.proofs.Common.{◌&&◌, not, nat_eq, length-drop, ◌≡◌, ◌≤◌, ◌<◌, ◌+◌, List, [], ◌∷◌, ◌++◌, ℕ, Bool, true, false, cond, ℤ, pos, arith, sym, refl, ap, ◌∙◌, length, drop, take, set, get_or, append_assoc, append-nil, add-zero, drop_of_length-le}
 use Rattle.std.specs.Int.{is_negative}
 use Rattle.std.specs.Int.RustNames.{unsigned_abs}
 use Rattle.std.proofs.lemmas.List.{take-set, take_more_set}
 use mir.Val.{bool_byte}
-use Rattle.std.proofs.lemmas.Bool.Decides.{nat_tests}
+use Rattle.std.proofs.Math.Dec.{eqb-suc-zero}
 use Rattle.hv_residual_model.specs.UnitBins.{UnitQuestion, unit_bin}
 use Rattle.hv_residual_model.specs.ResidualBins.{is_significant, magnitudes, signs, only_if_so, sig_coeff_bins}
 use Rattle.hv_residual.specs.Levels.{one_sig_bins}
@@ -63,14 +63,7 @@ pub one_of : (b : Bool) → bool_byte b ≡ cond b 1 0
 one_of true = refl
 one_of false = refl
 
-pub one_most : (b : Bool) → cond b 1 0 ≤ 1
-one_most true = omega arith
-one_most false = omega arith
-
 -- ---- sig_coeff_flag
-more_than_none : (n : ℕ) → nat_eq (suc n) 0 ≡ false
-more_than_none n = grind (arith, nat_tests)
-
 first_coded : (q : ℕ → UnitQuestion) (level : ℤ) (levels : List ℤ) (sure : Bool) →
     sig_coeff_bins q (level ∷ levels) sure ≡
     one_sig_bins q (length levels) sure (is_significant level) ++
@@ -78,7 +71,7 @@ first_coded : (q : ℕ → UnitQuestion) (level : ℤ) (levels : List ℤ) (sure
 unfolding sig_coeff_bins one_sig_bins
 first_coded q level [] true = refl
 first_coded q level [] false = refl
-first_coded q level (next ∷ levels) true = rw (more_than_none (length levels)) refl
+first_coded q level (next ∷ levels) true = rw (eqb-suc-zero (length levels)) refl
 first_coded q level (next ∷ levels) false = refl
 
 -- by the values that the code computed

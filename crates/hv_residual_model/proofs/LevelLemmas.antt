@@ -5,6 +5,7 @@ use Rattle.std.specs.Prelude.{nat_lt, ◌&&◌, ◌||◌}
 use Rattle.std.specs.List.{list_all}
 use Rattle.std.specs.Int.{is_negative}
 use Rattle.std.proofs.lemmas.Bool.{and_parts}
+use Rattle.std.proofs.Math.Bool.{or-false}
 use Rattle.hv_stream_model.specs.Scripts.{Done, only_if, ◌>>=◌, Reads, nothing, one}
 use Rattle.hv_stream_model.proofs.ScriptLemmas.{reads_then, reads_map, reads_ask, where_true}
 use Rattle.hv_residual_model.specs.UnitBins.{UnitQuestion, unit_bin}
@@ -15,10 +16,6 @@ use Rattle.hv_residual_model.proofs.UnitBinLemmas.{reads_value}
 use Rattle.hv_residual_model.proofs.BinarizationLemmas.{reads_remaining}
 
 -- ---- significance
-
-or_false : (a : Bool) → (a || false) ≡ a
-or_false true = refl
-or_false false = refl
 
 -- what is sure of a list is sure of its rest where the head is 0
 still_sure : (sure a b : Bool) → (sure ≡ true → (a || b) ≡ true) → (sure && not a) ≡ true →
@@ -35,7 +32,7 @@ unfolding sig_coeff_flags sig_coeff_bins
 reads_sig_coeff question [] sure h = nothing
 reads_sig_coeff question (c ∷ []) true h =
     reads_value nothing
-    (ap (λ (v : Bool). v ∷ []) (sym (sym (or_false (is_significant c)) ∙ h refl)))
+    (ap (λ (v : Bool). v ∷ []) (sym (sym (or-false (is_significant c)) ∙ h refl)))
 reads_sig_coeff question (c ∷ []) false h = one nothing
 reads_sig_coeff question (c ∷ d ∷ levels) sure h =
     one (reads_map (λ (flags : List Bool). is_significant c ∷ flags)
@@ -235,7 +232,7 @@ counted (pos zero ∷ cs) = counted cs
 counted (pos (suc n) ∷ cs) = ap suc (counted cs)
 counted (negsuc n ∷ cs) = ap suc (counted cs)
 
-as_many_signs : (cs : List ℤ) → length (signs cs) ≡ length (magnitudes cs)
+pub as_many_signs : (cs : List ℤ) → length (signs cs) ≡ length (magnitudes cs)
 as_many_signs [] = refl
 as_many_signs (pos zero ∷ cs) = as_many_signs cs
 as_many_signs (pos (suc n) ∷ cs) = ap suc (as_many_signs cs)

@@ -4,7 +4,7 @@ use Rattle.std.specs.Prelude.{Option, Some, IsSome, nat_eq, Err, string_bytes}
 use Rattle.std.proofs.lemmas.Nat.{div-add-mod', mul-le}
 use Rattle.std.proofs.Math.Nat.{lt-div-mul-add}
 use Rattle.std.proofs.lemmas.Bool.Decides.{nat_tests}
-use Rattle.hv_lemmas.proofs.ComparisonLemmas.{lt_below, lt_not_below}
+use Rattle.hv_lemmas.proofs.ComparisonLemmas.{lt_below, lt_not_below, other_than_0}
 use Rattle.hv_lemmas.proofs.OptionLemmas.{some_same}
 use Rattle.hv_types.specs.declared.settings.Settings.{Settings}
 use Rattle.hv_types.specs.declared.picture.Picture.{Picture}
@@ -150,9 +150,6 @@ part_of_line cfg d w r h bytes told =
 eq_true : (a : ℕ) → a ≡ 0 → nat_eq a 0 ≡ true
 eq_true a h = grind (arith, nat_tests)
 
-eq_false : (a : ℕ) → 0 < a → nat_eq a 0 ≡ false
-eq_false a h = grind (arith, nat_tests)
-
 -- the bytes behind the whole pictures
 rest_length : (cfg : Settings) (bytes : List ℕ) → length (rest_in cfg bytes) ≡ length bytes % picture_bytes cfg
 rest_length cfg bytes =
@@ -190,7 +187,7 @@ due_short cfg b have bytes now h =
     let some : 0 < p = omega (arith, picture_bytes-least cfg b.valid) in
     ap ShortPicture part
     ∙ sym (ap (λ (a : Bool). due a (nat_eq (z % p) 0) (z % p)) (lt_not_below (most_pictures * p) z (below p z most_pictures some few))
-    ∙ ap (λ (a : Bool). due false a (z % p)) (eq_false (z % p) (omega (arith, part, h.some))))
+    ∙ ap (λ (a : Bool). due false a (z % p)) (other_than_0 (z % p) (omega (arith, part, h.some))))
 
 due_too_long : (cfg : Settings) (bytes : List ℕ) (now : Option (List ℕ)) → GoesOn cfg bytes now → TooLong ≡ status_due cfg (length bytes)
 due_too_long cfg bytes now h =

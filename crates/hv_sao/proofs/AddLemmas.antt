@@ -1,16 +1,15 @@
 -- Samples that are counted one after another.
-use Rattle.std.proofs.Common.{◌≡◌, ◌≢◌, ℕ, suc, ◌+◌, ◌<◌, ◌≤◌, false, cond, nat_eq, nat_lt, ⊎_elim, List, [], ◌∷◌, ◌++◌, length, get_or, slice_set, ℤ, pos, ◌+ℤ◌, ◌-ℤ◌, refl, sym, ◌∙◌, ap, ap₂, subst, arith, add-one, length-set, append-nil, append_assoc, replicate, zero}
+use Rattle.std.proofs.Common.{◌≡◌, ◌≢◌, ℕ, suc, ◌+◌, ◌<◌, ◌≤◌, cond, nat_lt, ⊎_elim, List, [], ◌∷◌, ◌++◌, length, get_or, slice_set, ℤ, pos, ◌+ℤ◌, ◌-ℤ◌, refl, sym, ◌∙◌, ap, ap₂, subst, arith, add-one, length-set, append-nil, append_assoc, replicate, zero}
 use Rattle.hv_filter_model.specs.OffsetDecision.{Block, difference}
 use Rattle.hv_sao.specs.Decisions.{Counts, edge_key, edge_key_at}
 use Rattle.std.specs.List.{flat_map, sum_by}
 use Rattle.std.proofs.lemmas.List.Sums.{sum_by-append, sum_by_push}
 use Rattle.std.specs.Int.RustNames.{unsigned_abs}
 use Rattle.std.proofs.lemmas.Int.{ints}
-use Rattle.std.proofs.lemmas.Bool.{cases_eq, cases_lt, eq-eqb}
+use Rattle.std.proofs.lemmas.Bool.{cases_eq, cases_lt, eq-eqb, ne_eqb}
 use Rattle.hv_lemmas.proofs.ComparisonLemmas.{lt_below, lt_not_below}
 use Rattle.hv_types.specs.Samples.{sample_at}
 use Rattle.hv_filter_model.specs.SampleAdaptiveOffset.{edgeIdx}
-use Rattle.std.proofs.lemmas.Bool.Decides.{nat_tests}
 use Rattle.std.proofs.lemmas.List.{get_or-set_same, get_or-set_other}
 use Rattle.hv_lemmas.specs.Lists.{tabulate}
 use Rattle.hv_lemmas.proofs.ListLemmas.{tabulate_push}
@@ -34,9 +33,6 @@ adds_joined n key value xs ys old mid new h g = record {
   sums = λ k below. omega (arith, ints, h.sums k below, g.sums k below, chosen-append (has_key key k) value xs ys);
 }
 
-unequal : (a b : ℕ) → a ≢ b → nat_eq a b ≡ false
-unequal a b e = grind (arith, nat_tests)
-
 -- one sample
 pub adds_one : (n : ℕ) (key : Location → ℕ) (value : Location → ℤ) (a : Location) (k : ℕ) (v : ℤ) (mid : List Tally) (t : Tally) →
     k < n → n ≤ length mid → key a ≡ k → value a ≡ v → t.count ≡ (tally_at mid k).count + 1 → t.sum ≡ (tally_at mid k).sum +ℤ v →
@@ -54,7 +50,7 @@ adds_one n key value a k v mid t below room same same_v count sum = record {
       (λ other.
       let at : tally_at (slice_set mid k t) j ≡ tally_at mid j = get_or-set_other mid k j t no_tally other in
       let none : count_of key j (a ∷ []) ≡ pos 0 =
-      chosen-one (has_key key j) (λ b. pos 1) a ∙ ap (λ b. cond b (pos 1) (pos 0)) (unequal (key a) j (λ e. other (sym e ∙ same))) in
+      chosen-one (has_key key j) (λ b. pos 1) a ∙ ap (λ b. cond b (pos 1) (pos 0)) (ne_eqb (key a) j (λ e. other (sym e ∙ same))) in
       omega (arith, ints, ap (λ s. pos s.count) at, none))
       (cases_eq j k);
   sums = λ j inside.
@@ -68,7 +64,7 @@ adds_one n key value a k v mid t below room same same_v count sum = record {
       (λ other.
       let at : tally_at (slice_set mid k t) j ≡ tally_at mid j = get_or-set_other mid k j t no_tally other in
       let none : sum_of_key key value j (a ∷ []) ≡ pos 0 =
-      chosen-one (has_key key j) value a ∙ ap (λ b. cond b (value a) (pos 0)) (unequal (key a) j (λ e. other (sym e ∙ same))) in
+      chosen-one (has_key key j) value a ∙ ap (λ b. cond b (value a) (pos 0)) (ne_eqb (key a) j (λ e. other (sym e ∙ same))) in
       omega (arith, ints, ap (λ s. s.sum) at, none))
       (cases_eq j k);
 }
@@ -80,11 +76,11 @@ adds_uncounted n key value a ts out = record {
   size = refl;
   counts = λ j inside.
       let none : count_of key j (a ∷ []) ≡ pos 0 =
-      chosen-one (has_key key j) (λ b. pos 1) a ∙ ap (λ b. cond b (pos 1) (pos 0)) (unequal (key a) j (λ e. omega arith)) in
+      chosen-one (has_key key j) (λ b. pos 1) a ∙ ap (λ b. cond b (pos 1) (pos 0)) (ne_eqb (key a) j (λ e. omega arith)) in
       omega (arith, ints, none);
   sums = λ j inside.
       let none : sum_of_key key value j (a ∷ []) ≡ pos 0 =
-      chosen-one (has_key key j) value a ∙ ap (λ b. cond b (value a) (pos 0)) (unequal (key a) j (λ e. omega arith)) in
+      chosen-one (has_key key j) value a ∙ ap (λ b. cond b (value a) (pos 0)) (ne_eqb (key a) j (λ e. omega arith)) in
       omega (arith, ints, none);
 }
 

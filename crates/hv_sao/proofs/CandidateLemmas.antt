@@ -50,13 +50,6 @@ candidate_is b kind squares offsets made measured each component errors bins =
       bins = bins ∙ ap own_bins same;
     }
 
-pub each_of_four : (P : ℕ → Type 0) → P 0 → P 1 → P 2 → P 3 → (i : ℕ) → i < 4 → P i
-each_of_four P a b c d zero below = a
-each_of_four P a b c d (suc zero) below = b
-each_of_four P a b c d (suc (suc zero)) below = c
-each_of_four P a b c d (suc (suc (suc zero))) below = d
-each_of_four P a b c d (suc (suc (suc (suc i)))) below = absurd (omega arith)
-
 -- ---- off
 
 chosen_false : (t : Location → Bool) (f : Location → ℤ) (xs : List Location) → ((a : Location) → t a ≡ false) → chosen t f xs ≡ pos 0

@@ -2,8 +2,7 @@
 use Rattle.std.proofs.Common.{◌≡◌, ◌≢◌, ℕ, zero, suc, ◌+◌, ◌-◌, ◌<◌, ◌≤◌, Bool, true, false, cond, nat_eq, ◌⊎◌, ⊎_elim, List, [], ◌∷◌, ◌++◌, length, map, ℤ, pos, ◌+ℤ◌, ◌-ℤ◌, ◌*ℤ◌, refl, sym, ◌∙◌, ap, ap₂, arith, add-one, inr}
 use Rattle.std.specs.List.{filter}
 use Rattle.std.proofs.lemmas.Int.{ints}
-use Rattle.std.proofs.lemmas.Bool.{cases_lt, eq-eqb}
-use Rattle.std.proofs.lemmas.Bool.Decides.{nat_tests}
+use Rattle.std.proofs.lemmas.Bool.{cases_lt, eq-eqb, ne_eqb}
 use Rattle.hv_filter_model.specs.Blocks.{Location}
 use Rattle.hv_filter_model.specs.OffsetDecision.{sum_of}
 use Rattle.hv_sao.specs.Tallies.{sum_upto, chosen, has_key}
@@ -82,15 +81,12 @@ sum_upto-both (suc n) f g =
     let ih : sum_upto n (λ j. f j +ℤ g j) ≡ sum_upto n f +ℤ sum_upto n g = sum_upto-both n f g in
     omega (arith, ints, ih)
 
-unequal : (a b : ℕ) → a ≢ b → nat_eq a b ≡ false
-unequal a b e = grind (arith, nat_tests)
-
 -- of the terms for the keys from a base on, that of the key itself alone counts
 pub other_keys : (n k base : ℕ) (h : ℕ → ℤ) → (k < base) ⊎ (base + n ≤ k) →
     sum_upto n (λ j. cond (nat_eq k (base + j)) (h j) (pos 0)) ≡ pos 0
 other_keys n k base h out =
     sum_upto-zeros n (λ j. cond (nat_eq k (base + j)) (h j) (pos 0))
-    (λ j below. ap (λ b. cond b (h j) (pos 0)) (unequal k (base + j) (λ e. ⊎_elim (λ l. omega arith) (λ r. omega arith) out)))
+    (λ j below. ap (λ b. cond b (h j) (pos 0)) (ne_eqb k (base + j) (λ e. ⊎_elim (λ l. omega arith) (λ r. omega arith) out)))
 
 pub own_key : (n k base : ℕ) (h : ℕ → ℤ) → base ≤ k → k < base + n →
     sum_upto n (λ j. cond (nat_eq k (base + j)) (h j) (pos 0)) ≡ h (k - base)
@@ -100,7 +96,7 @@ own_key (suc n) k base h least most =
     ⊎_elim
     (λ early.
     let ih : sum_upto n (λ j. cond (nat_eq k (base + j)) (h j) (pos 0)) ≡ h (k - base) = own_key n k base h least early in
-    let last : cond (nat_eq k (base + n)) (h n) (pos 0) ≡ pos 0 = ap (λ b. cond b (h n) (pos 0)) (unequal k (base + n) (λ e. omega arith)) in
+    let last : cond (nat_eq k (base + n)) (h n) (pos 0) ≡ pos 0 = ap (λ b. cond b (h n) (pos 0)) (ne_eqb k (base + n) (λ e. omega arith)) in
     omega (arith, ints, ih, last))
     (λ late.
     let same : k ≡ base + n = omega arith in

@@ -1,17 +1,14 @@
 -- Neighbours of samples, and which samples lack one (8.7.3.2).
-use Rattle.std.proofs.Common.{◌≡◌, ◌≢◌, ℕ, zero, suc, ◌+◌, ◌-◌, ◌<◌, ◌≤◌, Bool, true, false, not, ◌&&◌, ◌⊎◌, ⊎_elim, refl, ◌∙◌, ap, ap₂, arith, Option, Some, None, ℤ, pos, negsuc, ◌+ℤ◌, nat_eq, List, length, min, max, sym, get_or}
+use Rattle.std.proofs.Common.{◌≡◌, ◌≢◌, ℕ, zero, suc, ◌+◌, ◌-◌, ◌<◌, ◌≤◌, false, not, ◌&&◌, ◌⊎◌, ⊎_elim, refl, ◌∙◌, ap, ap₂, arith, Option, Some, None, ℤ, pos, negsuc, ◌+ℤ◌, nat_eq, List, length, min, max, sym, get_or}
 use Rattle.std.proofs.lemmas.Bool.{cases_eq, cases_lt}
 use mir.Val.{bool_byte}
 use Rattle.std.proofs.lemmas.Bool.Decides.{eqb_tells}
 use Rattle.hv_sao.specs.Rows.{IsRow, IsEdgeRow}
 use Rattle.std.proofs.lemmas.Int.{ints}
+use Rattle.std.proofs.Math.Bool.{and-false}
 use Rattle.hv_lemmas.proofs.ComparisonLemmas.{lt_below, lt_not_below}
 use Rattle.hv_types.specs.Samples.{Plane, sample_at}
 use Rattle.hv_filter_model.specs.SampleAdaptiveOffset.{is_inside, sample_inside, neighbour, hPos, vPos, edge_of, edgeIdx}
-
-and_false : (b : Bool) → (b && false) ≡ false
-and_false true = refl
-and_false false = refl
 
 there : (plane : Plane) (a b : ℕ) (x y : ℤ) → x ≡ pos a → y ≡ pos b → a < plane.width → b < plane.height →
     sample_inside plane x y ≡ Some (sample_at plane a b)
@@ -31,7 +28,7 @@ no_column : (plane : Plane) (x y : ℤ) → is_inside plane.width x ≡ false �
 no_column plane x y outside = rw outside refl
 
 no_row : (plane : Plane) (x y : ℤ) → is_inside plane.height y ≡ false → sample_inside plane x y ≡ None
-no_row plane x y outside = rw (outside, and_false (is_inside plane.width x)) refl
+no_row plane x y outside = rw (outside, and-false (is_inside plane.width x)) refl
 
 first_missing : (sample : ℕ) (first second : Option ℕ) → first ≡ None → edge_of sample first second ≡ 0
 first_missing sample first second none = rw none refl

@@ -65,9 +65,6 @@ choice_inside w s k first n inside room =
     absurd (omega (arith, inside, room, most, add-mul first k s)))
     (cases_lt (first + k) n)
 
-pub block_of_column : (s k i : ℕ) → i < s → (k * s + i) / s ≡ k
-block_of_column s k i below = div-mul-add k s i below
-
 -- a block's part of a row behind those before it
 pub block_written : (component : Component) (choices : List SaoParam) (first side width y column step : ℕ) (none : SaoParam)
     (choice : SaoComponent) (plane old mid new : Plane) (row : List ℕ) → 0 < side → column * side < width →
@@ -89,5 +86,5 @@ block_written component choices first side width y column step none choice plane
     values i (omega (arith, below))
     ∙ ap (λ c. sao_sample c plane (n + i) y) same
     ∙ ap (λ k. sao_sample (component_of component (get_or choices (first + k) off_param)) plane (n + i) y)
-    (sym (block_of_column side column i (omega (arith, below)))))
+    (sym (div-mul-add column side i (omega (arith, below)))))
     (omega (arith, more))

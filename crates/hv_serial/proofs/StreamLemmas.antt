@@ -1,7 +1,7 @@
 -- The byte stream of pictures, one after another.
 use Rattle.std.proofs.Common.{◌≡◌, ℕ, zero, suc, List, [], ◌∷◌, ◌++◌, length, refl, ap, ◌∙◌, arith, append-nil}
-use Rattle.std.proofs.lemmas.Bool.Decides.{nat_tests}
 use Rattle.std.specs.Prelude.{nat_eq, Bool, true, false}
+use Rattle.std.proofs.Math.Dec.{eqb-suc-zero}
 use Rattle.hv_types.specs.declared.settings.Settings.{Settings}
 use Rattle.hv_types.specs.declared.settings.Emit.TheVariants.{Stream}
 use Rattle.hv_types.specs.declared.picture.Picture.{Picture}
@@ -13,15 +13,12 @@ use Rattle.hv_serial.specs.Endings.{bytes_of_picture}
 pub stream_output : (cfg : Settings) → cfg.emit ≡ Stream → (v : List Picture) → output cfg v ≡ encode_of cfg v
 stream_output cfg e v = rw e refl
 
-not_zero : (n : ℕ) → nat_eq (suc n) 0 ≡ false
-not_zero n = grind (arith, nat_tests)
-
 -- one picture more
 encode_of-snoc : (cfg : Settings) (v : List Picture) (p : Picture) →
     encode_of cfg (v ++ p ∷ []) ≡ encode_of cfg v ++ bytes_of_picture cfg (nat_eq (length v) 0) p
 encode_of-snoc cfg [] p = encoding_appends cfg [] p
 encode_of-snoc cfg (q ∷ v) p =
-    rw (not_zero (length v))
+    rw (eqb-suc-zero (length v))
     (encoding_appends cfg (q ∷ v) p ∙ ap (λ (x : List ℕ). x ++ picture_unit cfg p) (append-nil (encode_of cfg (q ∷ v))))
 
 -- a list with its last element apart

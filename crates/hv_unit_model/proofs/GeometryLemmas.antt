@@ -1,9 +1,10 @@
 -- Addresses of the squares of a block in z-scan order, and their columns and rows (6.5.2): computed
 -- over all of them.
-use Rattle.std.proofs.Common.{◌≡◌, ℕ, ◌+◌, ◌%◌, ◌^◌, Bool, true, false, refl, arith}
+use Rattle.std.proofs.Common.{◌≡◌, ℕ, ◌+◌, ◌%◌, ◌^◌, Bool, true, refl, arith}
 use Rattle.std.specs.Prelude.{nat_eq, nat_lt, not, ◌&&◌, ◌||◌}
-use Rattle.std.proofs.lemmas.Bool.{and_parts, ltb-true, eqb-true, eq-eqb, true≢false}
+use Rattle.std.proofs.lemmas.Bool.{and_parts, ltb-true, eqb-true, eq-eqb}
 use Rattle.hv_lemmas.proofs.ComputedLemmas.{all_below, holds_below}
+use Rattle.hv_lemmas.proofs.BooleanLemmas.{or_right}
 use Rattle.hv_unit_model.specs.Sites.{address_of, column_of, row_of, squares}
 use Rattle.hv_unit_model.specs.UnitLaws.{AddressesArePlaces, PlacesHaveAddresses, NodesAreSquares}
 
@@ -44,10 +45,6 @@ address_of_place column row h k =
 
 -- ---- nodes
 
-pub second_of : (b c : Bool) → b || c ≡ true → b ≡ false → c ≡ true
-second_of true c either off = absurd (true≢false off)
-second_of false c either off = either
-
 node_test : ℕ → ℕ → ℕ → Bool
 node_test size address b =
     nat_eq (column_of (address + b)) (column_of address + column_of b) &&
@@ -73,7 +70,7 @@ square_of_node size address b few inside even below =
     )) in
     let here = holds_below 64 (λ a. nodes_test size a) sizes address inside in
     let is_even = eq-eqb (address % squares size) 0 even in
-    let all = second_of (not (nat_eq (address % squares size) 0)) _ here (rw is_even refl) in
+    let all = or_right (not (nat_eq (address % squares size) 0)) _ here (rw is_even refl) in
     let p = and_parts _ _ (holds_below (squares size) (λ n. node_test size address n) all b below)
     in
     let q = and_parts _ _ p.1 in

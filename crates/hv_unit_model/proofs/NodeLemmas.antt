@@ -5,8 +5,8 @@ use Rattle.std.proofs.Common.{◌≡◌, ℕ, zero, suc, ◌+◌, ◌-◌, ◌*�
 use Rattle.std.specs.Prelude.{nat_eq, nat_lt, not, ◌&&◌, ◌||◌}
 use Rattle.std.proofs.lemmas.Bool.{and_parts, ltb-true, eqb-true, eq-eqb}
 use Rattle.hv_lemmas.proofs.ComputedLemmas.{all_below, holds_below}
+use Rattle.hv_lemmas.proofs.BooleanLemmas.{or_right}
 use Rattle.hv_unit_model.specs.Sites.{address_of, column_of, row_of, squares}
-use Rattle.hv_unit_model.proofs.GeometryLemmas.{second_of}
 
 pub record IsNode (size address : ℕ) : Type 0 where
   pub few : size ≤ 3
@@ -29,7 +29,7 @@ node_fact holds size all address node =
     let here = holds_below 64 (λ a. not (nat_eq (a % squares size) 0) || holds a) all address
     node.inside in
     let is_even = eq-eqb (address % squares size) 0 node.even in
-    second_of (not (nat_eq (address % squares size) 0)) (holds address) here (rw is_even refl)
+    or_right (not (nat_eq (address % squares size) 0)) (holds address) here (rw is_even refl)
 
 -- the squares of a node, and the nodes of its size or greater around them
 part_test : ℕ → ℕ → ℕ → ℕ → Bool

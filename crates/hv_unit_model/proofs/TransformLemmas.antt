@@ -7,6 +7,7 @@ use Rattle.std.proofs.lemmas.List.{length-replicate}
 use Rattle.std.proofs.lemmas.Bool.{ltb-false, or_parts, and_from, true≢false}
 use Rattle.hv_types.specs.declared.bins.CtxTable.TheVariants.{CbfChroma}
 use Rattle.hv_lemmas.specs.Booleans.{same}
+use Rattle.hv_lemmas.proofs.BooleanLemmas.{same_self}
 use Rattle.hv_stream_model.specs.Scripts.{Reads, nothing, one}
 use Rattle.hv_stream_model.proofs.ScriptLemmas.{reads_then, reads_map, where_true}
 use Rattle.hv_residual_model.specs.UnitBins.{UnitBin, context}
@@ -22,10 +23,6 @@ use Rattle.hv_unit_model.proofs.SignLemmas.{insignificant}
 or_false : (b : Bool) → b ≡ b || false
 or_false true = refl
 or_false false = refl
-
-same_self : (b : Bool) → same b b ≡ true
-same_self true = refl
-same_self false = refl
 
 only_first : (a b c : Bool) → a || (b || (c || false)) ≡ true → b ≡ false → c ≡ false → true ≡ a
 only_first true b c h off_b off_c = refl

@@ -1,11 +1,12 @@
 -- How far each segment is, by the rows of a wave.
-use Rattle.std.proofs.Common.{◌≡◌, ℕ, ◌+◌, ◌*◌, ◌/◌, ◌%◌, ◌<◌, ◌≤◌, ◌∙◌, sym, ap, ap₂, subst, refl, true, false, cond, nat_lt, nat_eq, ◌&&◌, Bool, List, length, map, slice_index_or, slice_set, arith, inl, inr}
+use Rattle.std.proofs.Common.{◌≡◌, ℕ, ◌+◌, ◌*◌, ◌/◌, ◌%◌, ◌<◌, ◌≤◌, ◌∙◌, sym, ap, ap₂, subst, true, false, cond, nat_lt, nat_eq, ◌&&◌, Bool, List, length, map, slice_index_or, slice_set, arith, inl, inr}
 use Rattle.std.specs.Prelude.{◌⊎◌}
 use Rattle.std.specs.List.{range_with_len}
 use Rattle.std.proofs.lemmas.Bool.{cases_eq, cases_lt, cases_Bool, lt-ltb, le-ltb, eq-eqb, ne_eqb}
 use Rattle.std.proofs.lemmas.List.{get_or-set_same, get_or-set_other, length-set}
 use Rattle.std.proofs.lemmas.List.FromFn.{get_or-map-range_with_len, length-map-range_with_len, fill_by_all}
 use Rattle.std.proofs.lemmas.Nat.{div-mul-add, mod-mul-add, mul-add-lt, mod_below, div-add-mod'}
+use Rattle.std.proofs.Math.Bool.{and-false}
 use Rattle.hv_wave.specs.declared.rows.Row.{Row}
 use Rattle.hv_wave.specs.Segments.{Stage, Waiting, Taken, Done}
 use Rattle.hv_wave.specs.Rows.{stage_in, row_at, no_row, stage_of}
@@ -34,16 +35,12 @@ pub stage_in-free : (row : Row) (place : ℕ) → row.done ≤ place → row.tak
 stage_in-free row place behind free =
     stage_in-front row place behind ∙ ap (λ t. cond (t && nat_eq place row.done) Taken Waiting) free
 
-and_no : (t : Bool) → (t && false) ≡ false
-and_no true = refl
-and_no false = refl
-
 pub stage_in-behind : (row : Row) (place : ℕ) → row.done < place → stage_in row place ≡ Waiting
 stage_in-behind row place behind =
     let no : nat_eq place row.done ≡ false = ne_eqb place row.done (λ e. omega arith) in
     stage_in-front row place (omega arith)
     ∙ ap (λ t. cond (row.taken && t) Taken Waiting) no
-    ∙ ap (λ t. cond t Taken Waiting) (and_no row.taken)
+    ∙ ap (λ t. cond t Taken Waiting) (and-false row.taken)
 
 -- .. and back
 pub done_from_stage : (row : Row) (place : ℕ) → stage_in row place ≡ Done → place < row.done

@@ -3,7 +3,8 @@ use Rattle.std.specs.Int.{is_negative}
 use Rattle.std.specs.Int.RustNames.{unsigned_abs}
 use Rattle.hv_residual_model.specs.ResidualBins.{is_significant, magnitudes}
 use Rattle.std.proofs.lemmas.List.{length-set, length-take-le}
-use Rattle.hv_residual.proofs.SignificanceLemmas.{magnitude_step, sign_step, one_of, one_most, no_magnitude}
+use Rattle.hv_lemmas.proofs.BooleanLemmas.{one_at_most}
+use Rattle.hv_residual.proofs.SignificanceLemmas.{magnitude_step, sign_step, one_of, no_magnitude}
 use Rattle.hv_residual.proofs.significance.nonzero_levels.Goals as goal
 
 pub loop-level-preserved : goal.loop-level-preserved
@@ -18,7 +19,7 @@ loop-level-preserved c =
     record {
       room = length-set c.loop-level.all n _ ∙ c.loop-level.invariant.room;
       room_of_signs = length-set c.loop-level.negative n _ ∙ c.loop-level.invariant.room_of_signs;
-      few = omega (arith, c.loop-level.invariant.few, one, one_most c.is_significant.result);
+      few = omega (arith, c.loop-level.invariant.few, one, one_at_most c.is_significant.result);
       magnitudes = magnitude_step c.loop-level.all n i _ _ levels c.is_significant.result (omega arith)
           (omega arith) one eb em
           c.loop-level.invariant.magnitudes;

@@ -1,6 +1,7 @@
 use Rattle.std.proofs.Common.{[], ◌∷◌}
+use Rattle.hv_lemmas.proofs.ComputedLemmas.{each_of_four}
 use Rattle.hv_plan.specs.declared.offsets.SaoKind.TheVariants.{Edge}
-use Rattle.hv_sao.proofs.CandidateLemmas.{candidate_is, each_of_four}
+use Rattle.hv_sao.proofs.CandidateLemmas.{candidate_is}
 use Rattle.hv_sao.proofs.candidates.edge_candidate.Goals as goal
 
 pub returns : goal.returns

@@ -1,6 +1,7 @@
 use Rattle.std.proofs.Common.{replicate, pos}
+use Rattle.hv_lemmas.proofs.ComputedLemmas.{each_of_four}
 use Rattle.hv_plan.specs.declared.offsets.SaoKind.TheVariants.{Off}
-use Rattle.hv_sao.proofs.CandidateLemmas.{candidate_is, each_of_four, off_each}
+use Rattle.hv_sao.proofs.CandidateLemmas.{candidate_is, off_each}
 use Rattle.hv_sao.proofs.candidates.off_candidate.Goals as goal
 
 pub returns : goal.returns

@@ -1,0 +1,15 @@
+-- Truth values.
+use Rattle.std.proofs.Common.{◌≡◌, ◌≤◌, Bool, true, false, cond, ◌||◌, refl, arith}
+use Rattle.hv_lemmas.specs.Booleans.{same}
+
+pub one_at_most : (b : Bool) → cond b 1 0 ≤ 1
+one_at_most true = omega arith
+one_at_most false = omega arith
+
+pub same_self : (b : Bool) → same b b ≡ true
+same_self true = refl
+same_self false = refl
+
+pub or_right : (b c : Bool) → b || c ≡ true → b ≡ false → c ≡ true
+or_right true c either off = absurd cc
+or_right false c either off = either

@@ -9,3 +9,5 @@ mod WorkedBlanks
 mod WorkedSlices
 mod WorkedStreams
 mod WorkedRefusals
+mod WorkedSequences
+mod WorkedGroups

@@ -6,7 +6,7 @@ use Rattle.hv_stream_model.specs.Bits.{bits_of}
 use Rattle.hv_stream_model.specs.BitLaws.{AreBits}
 use Rattle.hv_stream_model.specs.Fields.{bits_of_fields, read_header, padding_of, aligned}
 use Rattle.hv_stream_model.specs.Units.{same_bytes, last_of}
-use Rattle.hv_model.specs.Decoding.{is_trailing, is_slice_end}
+use Rattle.hv_model.specs.Parsing.{is_trailing, is_slice_end}
 use Rattle.hv_model.specs.PayloadLaws.{ParametersAreRead, AlignmentIsRead}
 use Rattle.hv_stream_model.proofs.ZeroLemmas.{zeros, length-zeros, AreBits-zeros, all_zero}
 use Rattle.hv_stream_model.proofs.FilledBitLemmas.{AreBits-fields}

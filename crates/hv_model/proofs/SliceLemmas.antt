@@ -1,28 +1,32 @@
 -- What is read of a slice is what it was made with.
-use Rattle.std.proofs.Common.{◌≡◌, ◌≢◌, ℕ, ◌+◌, ◌-◌, ◌/◌, ◌%◌, ◌^◌, ◌<◌, Bool, true, cond, List, [], ◌∷◌, ◌++◌, length, refl, sym, ap, ◌∙◌, subst, arith, append_assoc, length-append, IsSomeAnd}
-use Rattle.std.specs.Prelude.{Option, Some, None, option_and_then}
+use Rattle.std.proofs.Common.{◌≡◌, ◌≢◌, ℕ, ◌+◌, ◌-◌, ◌/◌, ◌%◌, ◌^◌, ◌<◌, ◌≤◌, true, false, List, [], ◌∷◌, ◌++◌, length, refl, sym, ap, ◌∙◌, subst, arith, append_assoc, length-append, IsSomeAnd, ne_eqb}
+use Rattle.std.specs.Prelude.{nat_eq, cond, Option, Some, None, option_and_then, option_map}
 use Rattle.hv_types.specs.declared.bins.SliceKind.{SliceKind}
-use Rattle.hv_types.specs.declared.bins.SliceKind.TheVariants.{I}
+use Rattle.hv_types.specs.Configuration.{most_levels}
 use Rattle.hv_types.specs.Bins.{Bin}
 use Rattle.hv_stream_model.specs.Bits.{digits, bits_of, bytes_of}
 use Rattle.hv_stream_model.specs.BitLaws.{AreBits}
+use Rattle.hv_stream_model.specs.Scripts.{Reads}
 use Rattle.hv_entropy_model.specs.Contexts.{first_variables}
 use Rattle.hv_entropy_model.specs.CodeWord.{Interval, first_interval, reach, odd_from, word}
-use Rattle.hv_stream_model.specs.Fields.{bits_of_fields, read_header, padding_of, aligned}
-use Rattle.hv_stream_model.specs.Units.{last_of}
-use Rattle.hv_stream_model.specs.Headers.{Size, idr_slice, read_idr_slice}
+use Rattle.hv_stream_model.specs.Fields.{Field, AllCodable, HeaderScript, bits_of_fields, read_header, padding_of, aligned}
+use Rattle.hv_stream_model.specs.Units.{NalUnit, TRAIL_R, last_of}
+use Rattle.hv_stream_model.specs.Headers.{Size, SliceHeader, used_count, idr_slice, slice, read_slice}
+use Rattle.hv_stream_model.specs.HeaderLaws.{OtherSlicesAreRead, OtherSlicesAreCodable}
 use Rattle.hv_entropy_model.specs.Oracle.{Oracle, begin, read, bits_left}
 use Rattle.hv_unit_model.specs.Trees.{CodingTreeUnit}
 use Rattle.hv_unit_model.specs.Sites.{Site}
 use Rattle.hv_unit_model.specs.Validity.{AreValid}
 use Rattle.hv_unit_model.specs.Bins.{slice_bins}
 use Rattle.hv_unit_model.specs.BlockSyntax.{slice_segment_data}
-use Rattle.hv_model.specs.Decoding.{behind_alignment, is_slice_end, if_ended, slice_data, has_type, sites_of, shown_picture, slice_after_header}
+use Rattle.hv_model.specs.Slices.{idr_header, nal_unit_type_of, header_fields}
+use Rattle.hv_model.specs.Parsing.{CodedPicture, behind_alignment, is_slice_end, if_ended, slice_data, data_behind, sites_of, picture_behind, picture_with, read_idr_header, picture_of_unit}
 use Rattle.hv_stream_model.specs.BitLaws.{missing}
-use Rattle.hv_model.specs.PayloadLaws.{SliceDataIsRead, payload_of_slice, SlicesAreRead, SlicesEnd}
+use Rattle.hv_model.specs.PayloadLaws.{SliceDataIsRead, word_behind, payload_of_slice, unit_of_slice, IsHeader, of_idr, of_other, SlicesAreRead, SlicesEnd}
 use Rattle.hv_stream_model.proofs.ZeroLemmas.{zeros, length-zeros}
 use Rattle.hv_stream_model.proofs.DigitLemmas.{digits-add}
 use Rattle.hv_stream_model.proofs.BitLemmas.{AreBits-digits, AreBits-append}
+use Rattle.hv_stream_model.proofs.ScriptLemmas.{reads_map}
 use Rattle.hv_entropy_model.proofs.OracleLemmas.{script_reads_code_word}
 use Rattle.hv_stream_model.proofs.HeaderLemmas.{reads_idr_slice, codable_idr_slice}
 use Rattle.hv_unit_model.proofs.UnitLemmas.{reads_slice}
@@ -70,91 +74,138 @@ ended_units : (bits rest : List ℕ) (units : List CodingTreeUnit)
 ended_units bits rest units None e h = absurd h
 ended_units bits rest units (Some r) e h = rw (h.0, h.1, e) refl
 
-begun_units : (places : List Site) (bits rest : List ℕ) (units : List CodingTreeUnit)
-    (o : Option Oracle) →
+begun_units : (kind : SliceKind) (references : ℕ) (places : List Site) (bits rest : List ℕ)
+    (units : List CodingTreeUnit) (o : Option Oracle) →
     is_slice_end bits rest ≡ true →
-    IsSomeAnd o (λ first. IsSomeAnd (read (slice_segment_data I 0 places) first)
+    IsSomeAnd o (λ first. IsSomeAnd (read (slice_segment_data kind references places) first)
     (λ x. (x.0 ≡ units) × (bits_left x.1 ≡ rest))) →
-    if_ended bits (option_and_then (λ oracle. read (slice_segment_data I 0 places) oracle) o) ≡
+    if_ended bits
+    (option_and_then (λ oracle. read (slice_segment_data kind references places) oracle) o) ≡
     Some units
-begun_units places bits rest units None e h = absurd h
-begun_units places bits rest units (Some first) e h =
-    ended_units bits rest units (read (slice_segment_data I 0 places) first) e h
+begun_units kind references places bits rest units None e h = absurd h
+begun_units kind references places bits rest units (Some first) e h =
+    ended_units bits rest units (read (slice_segment_data kind references places) first) e h
 
 pub slice_data-back : SliceDataIsRead
-slice_data-back places qp n units there valid few =
-    let list : List Bin = slice_bins I 0 places units in
-    let code : List ℕ = word I qp list in
-    let w = word_ends I qp list in
+slice_data-back kind references qp places units n there valid few =
+    let list : List Bin = slice_bins kind references places units in
+    let code : List ℕ = word kind qp list in
+    let w = word_ends kind qp list in
     let ends : is_slice_end (code ++ zeros n) (zeros n) ≡ true =
     subst (λ c. is_slice_end (c ++ zeros n) (zeros n) ≡ true) (sym w.whole)
     (slice_end w.front n few) in
-    begun_units places (code ++ zeros n) (zeros n) units (begin (code ++ zeros n) I qp) ends
-    (script_reads_code_word (List CodingTreeUnit) I qp (slice_segment_data I 0 places) list units
-    (zeros n) (reads_slice I 0 places units valid) (slice_ends I 0 places units there valid))
+    begun_units kind references places (code ++ zeros n) (zeros n) units
+    (begin (code ++ zeros n) kind qp) ends
+    (script_reads_code_word (List CodingTreeUnit) kind qp
+    (slice_segment_data kind references places) list units
+    (zeros n) (reads_slice kind references places units valid)
+    (slice_ends kind references places units there valid))
 
 -- ---- a slice
 
--- the bits of the payload of a slice with these bins, and zeros to the byte
-slice_bits : (qp : ℕ) (list : List Bin) →
-    bits_of (bytes_of (aligned (bits_of_fields (idr_slice qp)) ++ word I qp list)) ≡
-    aligned (bits_of_fields (idr_slice qp)) ++ word I qp list ++
-    zeros (missing (length (aligned (bits_of_fields (idr_slice qp)) ++ word I qp list)))
-slice_bits qp list =
-    bits_of-bytes_of-zeros (aligned (bits_of_fields (idr_slice qp)) ++ word I qp list)
-    (AreBits-append (aligned (bits_of_fields (idr_slice qp))) (word I qp list)
-    (AreBits-aligned (bits_of_fields (idr_slice qp)) (AreBits-fields (idr_slice qp)))
-    (AreBits-word I qp list))
+-- the bits of a payload with these fields and this code word, and zeros to the byte
+slice_bits : (fields : List Field) (code : List ℕ) → AreBits code →
+    bits_of (bytes_of (aligned (bits_of_fields fields) ++ code)) ≡
+    aligned (bits_of_fields fields) ++ code ++
+    zeros (missing (length (aligned (bits_of_fields fields) ++ code)))
+slice_bits fields code bits =
+    bits_of-bytes_of-zeros (aligned (bits_of_fields fields) ++ code)
+    (AreBits-append (aligned (bits_of_fields fields)) code
+    (AreBits-aligned (bits_of_fields fields) (AreBits-fields fields)) bits)
 
 regroup : (a b c d : List ℕ) → (a ++ b) ++ c ++ d ≡ a ++ (b ++ (c ++ d))
 regroup a b c d = simp append_assoc
 
-after_header : (size : Size) (qp n before : ℕ) (units : List CodingTreeUnit) →
-    sites_of size ≢ [] → AreValid I 0 (sites_of size) units → n < 8 →
-    length (word I qp (slice_bins I 0 (sites_of size) units) ++ zeros n) % 8 ≡ 0 →
-    slice_after_header size
-    (Some (qp, padding_of before ++ (word I qp (slice_bins I 0 (sites_of size) units) ++ zeros n))) ≡
-    shown_picture size units
-after_header size qp n before units there valid few whole =
+behind_header : (size : Size) (header : SliceHeader) (n before : ℕ)
+    (units : List CodingTreeUnit) → sites_of size ≢ [] →
+    AreValid header.slice_type (used_count header.references) (sites_of size) units → n < 8 →
+    length (word_behind header (sites_of size) units ++ zeros n) % 8 ≡ 0 →
+    picture_behind size
+    (Some (header, padding_of before ++ (word_behind header (sites_of size) units ++ zeros n))) ≡
+    Some (record { header = header; units = units })
+behind_header size header n before units there valid few whole =
     let places : List Site = sites_of size in
-    let bits : List ℕ = word I qp (slice_bins I 0 places units) ++ zeros n in
+    let bits : List ℕ = word_behind header places units ++ zeros n in
+    let made : List CodingTreeUnit → CodedPicture = λ u. record { header = header; units = u } in
     let behind : behind_alignment (padding_of before ++ bits) ≡ Some bits =
     alignment-back before bits whole in
-    let value : slice_data places qp bits ≡ Some units =
-    slice_data-back places qp n units there valid few in
-    ap (λ o. option_and_then (shown_picture size) (option_and_then (slice_data places qp) o)) behind ∙
-    ap (option_and_then (shown_picture size)) value
+    let value : data_behind header places bits ≡ Some units =
+    slice_data-back header.slice_type (used_count header.references) header.qp places units n there
+    valid few in
+    ap (λ o. option_map made (option_and_then (data_behind header places) o)) behind ∙
+    ap (option_map made) value
 
-when : {A : Type 0} (t : Bool) (o r : Option A) → t ≡ true → o ≡ r → cond t o None ≡ r
-when t o r p e = rw p e
-
-pub slices_back : SlicesAreRead
-slices_back size qp units nal there valid small kind given =
-    let header : List ℕ = bits_of_fields (idr_slice qp) in
-    let pad : List ℕ = padding_of (length header) in
-    let list : List Bin = slice_bins I 0 (sites_of size) units in
-    let code : List ℕ = word I qp list in
-    let n : ℕ = missing (length (aligned header ++ code)) in
+-- with a script that reads these fields as the header
+pub picture_back : (script : HeaderScript SliceHeader) (size : Size) (header : SliceHeader)
+    (fields : List Field) (units : List CodingTreeUnit) (nal : NalUnit) →
+    Reads script fields header → AllCodable fields → sites_of size ≢ [] →
+    AreValid header.slice_type (used_count header.references) (sites_of size) units →
+    nal.payload ≡
+    bytes_of (aligned (bits_of_fields fields) ++ word_behind header (sites_of size) units) →
+    picture_with script size nal ≡ Some (record { header = header; units = units })
+picture_back script size header fields units nal reads codable there valid given =
+    let bits : List ℕ = bits_of_fields fields in
+    let pad : List ℕ = padding_of (length bits) in
+    let list : List Bin =
+    slice_bins header.slice_type (used_count header.references) (sites_of size) units in
+    let code : List ℕ = word header.slice_type header.qp list in
+    let n : ℕ = missing (length (aligned bits ++ code)) in
     let rest : List ℕ = pad ++ (code ++ zeros n) in
-    let bits : bits_of nal.payload ≡ header ++ rest =
-    ap bits_of given ∙ slice_bits qp list ∙ regroup header pad code (zeros n) in
-    let back : read_header read_idr_slice (header ++ rest) ≡ Some (qp, rest) =
-    fields_read_back ℕ read_idr_slice (idr_slice qp) qp rest (codable_idr_slice qp small)
-    (reads_idr_slice qp small) in
+    let all : bits_of nal.payload ≡ bits ++ rest =
+    ap bits_of given ∙ slice_bits fields code (AreBits-word header.slice_type header.qp list) ∙
+    regroup bits pad code (zeros n) in
+    let back : read_header script (bits ++ rest) ≡ Some (header, rest) =
+    fields_read_back SliceHeader script fields header rest codable reads in
     let whole : length (code ++ zeros n) % 8 ≡ 0 =
     omega (
       arith,
       length-append code (zeros n),
       length-zeros n,
-      length-append (aligned header) code,
-      length-aligned header,
+      length-append (aligned bits) code,
+      length-aligned bits,
     ) in
-    when (has_type 20 nal)
-    (slice_after_header size (read_header read_idr_slice (bits_of nal.payload)))
-    (shown_picture size units) kind
-    (ap (λ b. slice_after_header size (read_header read_idr_slice b)) bits ∙
-    ap (slice_after_header size) back ∙
-    after_header size qp n (length header) units there valid (omega arith) whole)
+    ap (λ b. picture_behind size (read_header script b)) all ∙
+    ap (picture_behind size) back ∙
+    behind_header size header n (length bits) units there valid (omega arith) whole
+
+pub reads_idr : (qp : ℕ) → qp ≤ 51 → Reads read_idr_header (idr_slice qp) (idr_header qp)
+reads_idr qp small = reads_map idr_header (reads_idr_slice qp small)
+
+-- a header of another picture isn't that of an IDR picture
+other_fields : (header : SliceHeader) → nat_eq header.slice_pic_order_cnt_lsb 0 ≡ false →
+    header_fields header ≡ slice header
+other_fields header e = rw e refl
+
+-- a unit of the type of other pictures
+other_unit : (levels : ℕ) (size : Size) (nal : NalUnit) →
+    nal.nal_unit_type ≡ TRAIL_R → nal.nuh_layer_id ≡ 0 → nal.TemporalId ≡ 0 →
+    picture_of_unit levels size nal ≡ picture_with (read_slice levels) size nal
+other_unit levels size nal kind layer temporal = rw (kind, layer, temporal) refl
+
+other_type : (header : SliceHeader) → nat_eq header.slice_pic_order_cnt_lsb 0 ≡ false →
+    nal_unit_type_of header ≡ TRAIL_R
+other_type header e = rw e refl
+
+-- by what headers of other pictures are read as
+module _ (reads_other : OtherSlicesAreRead) (codable_other : OtherSlicesAreCodable) where
+  pub slices_back : SlicesAreRead
+  slices_back levels size header units few there (of_idr qp small) valid =
+      picture_back read_idr_header size (idr_header qp) (idr_slice qp) units
+      (unit_of_slice (idr_header qp) (sites_of size) units) (reads_idr qp small)
+      (codable_idr_slice qp small) there valid refl
+  slices_back levels size header units few there (of_other _ allowed) valid =
+      let places : List Site = sites_of size in
+      let other : nat_eq header.slice_pic_order_cnt_lsb 0 ≡ false =
+      ne_eqb header.slice_pic_order_cnt_lsb 0 (λ e. omega (arith, e, allowed.count_least)) in
+      let payload : payload_of_slice header places units ≡
+      bytes_of (aligned (bits_of_fields (slice header)) ++ word_behind header places units) =
+      ap (λ f. bytes_of (aligned (bits_of_fields f) ++ word_behind header places units))
+      (other_fields header other) in
+      let nal : NalUnit = unit_of_slice header places units in
+      other_unit levels size nal (other_type header other) refl refl ∙
+      picture_back (read_slice levels) size header (slice header) units nal
+      (reads_other levels header allowed) (codable_other levels header few allowed) there valid
+      payload
 
 -- zeros behind a one fill its byte as an alignment does
 filled_one : (bits : List ℕ) → bytes_of (bits ++ 1 ∷ []) ≡ bytes_of (aligned bits)
@@ -166,12 +217,13 @@ filled_one bits =
     ap bytes_of (append_assoc bits (1 ∷ []) (zeros (missing (length bits + 1))))
 
 pub slices_end : SlicesEnd
-slices_end qp places units none =
-    let list : List Bin = slice_bins I 0 places units in
-    let w = word_ends I qp list in
-    let header : List ℕ = aligned (bits_of_fields (idr_slice qp)) in
-    let parts : header ++ word I qp list ≡ (header ++ w.front) ++ 1 ∷ [] =
-    ap (λ c. header ++ c) w.whole ∙ sym (append_assoc header w.front (1 ∷ [])) in
-    let bytes : payload_of_slice qp places units ≡ bytes_of (aligned (header ++ w.front)) =
-    ap bytes_of parts ∙ filled_one (header ++ w.front) in
-    last_of-aligned (header ++ w.front) (ap last_of (sym bytes) ∙ none)
+slices_end header places units none =
+    let list : List Bin =
+    slice_bins header.slice_type (used_count header.references) places units in
+    let w = word_ends header.slice_type header.qp list in
+    let fields : List ℕ = aligned (bits_of_fields (header_fields header)) in
+    let parts : fields ++ word header.slice_type header.qp list ≡ (fields ++ w.front) ++ 1 ∷ [] =
+    ap (λ c. fields ++ c) w.whole ∙ sym (append_assoc fields w.front (1 ∷ [])) in
+    let bytes : payload_of_slice header places units ≡ bytes_of (aligned (fields ++ w.front)) =
+    ap bytes_of parts ∙ filled_one (fields ++ w.front) in
+    last_of-aligned (fields ++ w.front) (ap last_of (sym bytes) ∙ none)

@@ -6,6 +6,7 @@ use Rattle.hv_plan.specs.declared.offsets.SaoKind.TheVariants.{Off, Band, Edge}
 use Rattle.hv_plan.specs.declared.offsets.SaoComponent.{SaoComponent}
 use Rattle.hv_unit_model.specs.Trees.{Motion, Intra, Inter, Tree, Leaf, Split, Outside, CodingTreeUnit, no_levels, no_units}
 use Rattle.hv_model.specs.ModeDecision.{no_offset, no_offsets}
+use Rattle.hv_model.specs.Slices.{idr_header}
 use Rattle.hv_model.specs.Reconstruction.{is_blank_tree, is_blank, grey, unfiltered_picture}
 
 abbrev flat : ℕ → Tree
@@ -85,14 +86,14 @@ unit_with tree last =
 
 -- also where a unit is split without need
 grey_of_blank_units :
-    unfiltered_picture 128 64
+    unfiltered_picture 128 64 (idr_header 26) []
     (unit_with (Split (flat 2) (flat 2) (flat 2) (flat 2)) false ∷ unit_with (flat 3) true ∷ []) ≡
     Some (grey 128 64)
 unfolding unit_with no_units no_levels
 grey_of_blank_units = refl
 
 nothing_of_others :
-    unfiltered_picture 128 64
+    unfiltered_picture 128 64 (idr_header 26) []
     (unit_with (flat 3) false ∷ unit_with (Leaf (Intra 0) (no_units 3)) true ∷ []) ≡ None
 unfolding unit_with no_units no_levels
 nothing_of_others = refl

@@ -1,5 +1,5 @@
 -- What decoding refuses and accepts of the eighty bytes of a grey picture, computed by the
--- definitions.
+-- definitions: what is refused is so by its syntax alone.
 use Rattle.std.proofs.Common.{◌≡◌, ◌≢◌, ℕ, zero, suc, ◌+◌, ◌-◌, ◌/◌, ◌%◌, ◌^◌, ◌<◌, ◌≤◌, Bool, true, false, cond, List, [], ◌∷◌, ◌++◌, take, drop, refl, sym, ap, ◌∙◌, subst, ◌⊎◌, inl, inr, arith}
 use Rattle.std.specs.Prelude.{nat_eq, replicate, Option, Some, None, option_and_then}
 use Rattle.std.specs.List.{list_all}
@@ -20,7 +20,8 @@ use Rattle.hv_unit_model.specs.BlockSyntax.{sao, luma_mode, block_levels, transf
 use Rattle.hv_stream_model.specs.Units.{NalUnit, IsUnit, IsByteStream, end, more, strip, last_of, units_of}
 use Rattle.hv_types.specs.Video.{crop}
 use Rattle.hv_model.specs.Reconstruction.{grey}
-use Rattle.hv_model.specs.Decoding.{decode_units, decode_of}
+use Rattle.hv_model.specs.Parsing.{parsed_units, parsed_of}
+use Rattle.hv_model.specs.Decoding.{shown_of, decode_of}
 use Rattle.hv_model.proofs.WorkedStreams.{eighty_bytes, eighty_bytes_decoded}
 use Rattle.hv_stream_model.proofs.UnitLemmas.{streams_read}
 
@@ -31,6 +32,10 @@ is_refused (Some a) = false
 refused : {A : Type 0} (o : Option A) → is_refused o ≡ true → o ≡ None
 refused None e = refl
 refused (Some a) e = absurd cc
+
+-- what has no syntax shows nothing
+shows_nothing : (bytes : List ℕ) → is_refused (parsed_of bytes) ≡ true → decode_of bytes ≡ None
+shows_nothing bytes e = ap (option_and_then shown_of) (refused (parsed_of bytes) e)
 
 abbrev numbers : ℕ → ℕ → List ℕ
 numbers zero from = []
@@ -67,7 +72,7 @@ abbrev turned : ℕ → List ℕ → List ℕ
 turned i bytes = turned_in (7 - i % 8) (i / 8) bytes
 
 abbrev turned_refused : ℕ → Bool
-turned_refused i = is_refused (decode_of (turned i eighty_bytes))
+turned_refused i = is_refused (parsed_of (turned i eighty_bytes))
 
 abbrev all_refused : ℕ → ℕ → Bool
 all_refused from count = list_all turned_refused (numbers count from)
@@ -131,7 +136,7 @@ turned_bit i h other =
     ]
 
 turned_bit_refused : (i : ℕ) → i < 640 → i ≢ 577 → decode_of (turned i eighty_bytes) ≡ None
-turned_bit_refused i h other = refused (decode_of (turned i eighty_bytes)) (turned_bit i h other)
+turned_bit_refused i h other = shows_nothing (turned i eighty_bytes) (turned_bit i h other)
 
 -- ---- other bytes
 
@@ -139,7 +144,7 @@ last_byte_missing : decode_of (take 79 eighty_bytes) ≡ None
 unfolding first_bytes lps_width next_variable first_variables shift_of log2_of sites sao coding_quadtree coding_unit intra_unit luma_mode candModeList mode_of_remaining truncated_unary transform_tree quarters transform_unit block_levels no_units no_levels look_picture column_of row_of address_of crosses is_outside residual_coding last_sig_coeff sig_coeff_flags greater1_flags levels_of_flags positions sub_blocks_below coeff_abs_level_remaining exp_golomb scan_order block_position block_number tabulate
 last_byte_missing = refl
 
-bytes_behind : list_all (λ byte. is_refused (decode_of (eighty_bytes ++ byte ∷ [])))
+bytes_behind : list_all (λ byte. is_refused (parsed_of (eighty_bytes ++ byte ∷ [])))
     (numbers 255 1) ≡ true
 unfolding first_bytes lps_width next_variable first_variables shift_of log2_of sites sao coding_quadtree coding_unit intra_unit luma_mode candModeList mode_of_remaining truncated_unary transform_tree quarters transform_unit block_levels no_units no_levels look_picture column_of row_of address_of crosses is_outside residual_coding last_sig_coeff sig_coeff_flags greater1_flags levels_of_flags positions sub_blocks_below coeff_abs_level_remaining exp_golomb scan_order block_position block_number tabulate
 bytes_behind = refl
@@ -148,8 +153,8 @@ bytes_behind = refl
 byte_behind_refused : (byte : ℕ) → 0 < byte → byte < 256 →
     decode_of (eighty_bytes ++ byte ∷ []) ≡ None
 byte_behind_refused byte some small =
-    refused (decode_of (eighty_bytes ++ byte ∷ []))
-    (passes (λ b. is_refused (decode_of (eighty_bytes ++ b ∷ []))) 255 1 byte bytes_behind
+    shows_nothing (eighty_bytes ++ byte ∷ [])
+    (passes (λ b. is_refused (parsed_of (eighty_bytes ++ b ∷ []))) 255 1 byte bytes_behind
     (omega arith) (omega arith))
 
 -- ---- the four units
@@ -176,7 +181,7 @@ no_pictures_in_sets = refl
 
 -- any two of them exchanged
 exchanged_refused :
-    list_all (λ bytes. is_refused (decode_of bytes))
+    list_all (λ bytes. is_refused (parsed_of bytes))
     ((sequence ++ video ++ picture ++ slice) ∷
     (picture ++ sequence ++ video ++ slice) ∷
     (slice ++ sequence ++ picture ++ video) ∷
@@ -230,4 +235,5 @@ zero_bytes_accepted a b c d e =
     streams_read (with_zeros a b c d e) four_units (with_zeros_stream a b c d e) in
     let those : units_of eighty_bytes ≡ Some four_units =
     streams_read eighty_bytes four_units (with_zeros_stream 1 1 1 1 0) in
-    ap (option_and_then decode_units) (these ∙ sym those) ∙ eighty_bytes_decoded
+    ap (λ found. option_and_then shown_of (option_and_then parsed_units found))
+    (these ∙ sym those) ∙ eighty_bytes_decoded

@@ -1,6 +1,8 @@
 pub mod Reconstruction
 pub mod Deblocking
 pub mod SampleAdaptiveOffset
+pub mod Slices
+pub mod Parsing
 pub mod Decoding
 pub mod ModeDecision
 pub mod Encoding

@@ -1,17 +1,20 @@
 -- What is read of a payload is what it was made with.
-use Rattle.std.specs.Prelude.{◌≡◌, ◌≢◌, ℕ, ◌%◌, ◌<◌, ◌≤◌, true, List, [], ◌++◌, length, replicate, Some}
-use Rattle.hv_types.specs.declared.bins.SliceKind.TheVariants.{I}
+use Rattle.std.specs.Prelude.{◌≡◌, ◌≢◌, ℕ, ◌%◌, ◌<◌, ◌≤◌, List, [], ◌++◌, length, replicate, Some}
+use Rattle.hv_types.specs.declared.bins.SliceKind.{SliceKind}
+use Rattle.hv_types.specs.Configuration.{most_levels}
 use Rattle.hv_stream_model.specs.Bits.{bytes_of}
 use Rattle.hv_stream_model.specs.Scripts.{Reads}
 use Rattle.hv_stream_model.specs.Fields.{Field, AllCodable, bits_of_fields, HeaderScript, padding_of, aligned}
 use Rattle.hv_stream_model.specs.Units.{NalUnit, last_of}
-use Rattle.hv_stream_model.specs.Headers.{Size, idr_slice}
+use Rattle.hv_stream_model.specs.Headers.{Size, SliceHeader, used_count}
+use Rattle.hv_stream_model.specs.HeaderLaws.{IsAllowedSlice}
 use Rattle.hv_entropy_model.specs.CodeWord.{word}
 use Rattle.hv_unit_model.specs.Trees.{CodingTreeUnit}
 use Rattle.hv_unit_model.specs.Sites.{Site}
 use Rattle.hv_unit_model.specs.Validity.{AreValid}
 use Rattle.hv_unit_model.specs.Bins.{slice_bins}
-use Rattle.hv_model.specs.Decoding.{parameters, behind_alignment, slice_data, has_type, sites_of, shown_picture, picture_of_unit}
+use Rattle.hv_model.specs.Slices.{idr_header, nal_unit_type_of, header_fields}
+use Rattle.hv_model.specs.Parsing.{parameters, behind_alignment, slice_data, sites_of, picture_of_unit}
 
 -- a parameter set (7.3.2), from its fields and their trailing bits
 abbrev pub ParametersAreRead : Type 0 → Type 0
@@ -27,28 +30,54 @@ AlignmentIsRead =
     (before : ℕ) (bits : List ℕ) → length bits % 8 ≡ 0 →
     behind_alignment (padding_of before ++ bits) ≡ Some bits
 
--- slice_segment_data (7.3.8.1), from its code word and zeros to the byte
+-- slice_segment_data (7.3.8.1) of any kind, with any number of references, from its code word and
+-- zeros to the byte
 abbrev pub SliceDataIsRead : Type 0
 SliceDataIsRead =
-    (sites : List Site) (qp zeros : ℕ) (units : List CodingTreeUnit) →
-    sites ≢ [] → AreValid I 0 sites units → zeros < 8 →
-    slice_data sites qp (word I qp (slice_bins I 0 sites units) ++ replicate zeros 0) ≡ Some units
+    (slice_type : SliceKind) (references qp : ℕ) (sites : List Site) (units : List CodingTreeUnit)
+    (zeros : ℕ) →
+    sites ≢ [] → AreValid slice_type references sites units → zeros < 8 →
+    slice_data slice_type references qp sites
+    (word slice_type qp (slice_bins slice_type references sites units) ++ replicate zeros 0) ≡
+    Some units
+
+-- the code word of slice data behind this header
+abbrev pub word_behind : SliceHeader → List Site → List CodingTreeUnit → List ℕ
+word_behind header sites units =
+    word header.slice_type header.qp
+    (slice_bins header.slice_type (used_count header.references) sites units)
 
 -- the payload of a slice of these blocks
-abbrev pub payload_of_slice : ℕ → List Site → List CodingTreeUnit → List ℕ
-payload_of_slice qp sites units =
-    bytes_of (aligned (bits_of_fields (idr_slice qp)) ++ word I qp (slice_bins I 0 sites units))
+abbrev pub payload_of_slice : SliceHeader → List Site → List CodingTreeUnit → List ℕ
+payload_of_slice header sites units =
+    bytes_of
+    (aligned (bits_of_fields (header_fields header)) ++ word_behind header sites units)
 
--- the picture of a unit with such a payload
+-- and its unit, of the base layer and the lowest sub-layer
+abbrev pub unit_of_slice : SliceHeader → List Site → List CodingTreeUnit → NalUnit
+unit_of_slice header sites units = record {
+  nal_unit_type = nal_unit_type_of header;
+  nuh_layer_id = 0;
+  TemporalId = 0;
+  payload = payload_of_slice header sites units;
+}
+
+-- the slice headers of this profile, by the number of temporal levels
+pub data IsHeader (levels : ℕ) : SliceHeader → Type 0 where
+  of_idr : (qp : ℕ) → qp ≤ 51 → IsHeader levels (idr_header qp)
+  of_other : (header : SliceHeader) → IsAllowedSlice levels header → IsHeader levels header
+
+-- the coded picture of such a unit
 abbrev pub SlicesAreRead : Type 0
 SlicesAreRead =
-    (size : Size) (qp : ℕ) (units : List CodingTreeUnit) (nal : NalUnit) →
-    sites_of size ≢ [] → AreValid I 0 (sites_of size) units → qp ≤ 51 →
-    has_type 20 nal ≡ true → nal.payload ≡ payload_of_slice qp (sites_of size) units →
-    picture_of_unit size nal ≡ shown_picture size units
+    (levels : ℕ) (size : Size) (header : SliceHeader) (units : List CodingTreeUnit) →
+    levels ≤ most_levels → sites_of size ≢ [] → IsHeader levels header →
+    AreValid header.slice_type (used_count header.references) (sites_of size) units →
+    picture_of_unit levels size (unit_of_slice header (sites_of size) units) ≡
+    Some (record { header = header; units = units })
 
 -- its last byte isn't 0
 abbrev pub SlicesEnd : Type 0
 SlicesEnd =
-    (qp : ℕ) (sites : List Site) (units : List CodingTreeUnit) →
-    last_of (payload_of_slice qp sites units) ≢ 0
+    (header : SliceHeader) (sites : List Site) (units : List CodingTreeUnit) →
+    last_of (payload_of_slice header sites units) ≢ 0

@@ -7,6 +7,7 @@ use Rattle.hv_types.specs.Samples.{filled_plane}
 use Rattle.hv_plan.specs.declared.offsets.SaoKind.{SaoKind}
 use Rattle.hv_plan.specs.declared.offsets.SaoKind.TheVariants.{Off, Band, Edge}
 use Rattle.hv_plan.specs.declared.offsets.SaoParam.{SaoParam}
+use Rattle.hv_stream_model.specs.Headers.{SliceHeader}
 use Rattle.hv_unit_model.specs.Trees.{Tree, Leaf, Split, Outside, Intra, Inter, CodingTreeUnit, any_level}
 use Rattle.hv_unit_model.specs.MostProbableModes.{dc}
 use Rattle.hv_model.specs.Deblocking.{deblocked_picture}
@@ -43,11 +44,18 @@ grey width height = record {
   cr = filled_plane (width / 2) (height / 2) 128;
 }
 
--- Before the in-loop filters, where all units are blank: the first block predicts from nothing,
--- which stands for 128 (8.4.4.2.2), and DC of samples that are all 128 is 128 (8.4.4.2.5); no level
--- adds to it. So far there are no samples of other units.
-abbrev pub unfiltered_picture : ℕ → ℕ → List CodingTreeUnit → Option Picture
-unfiltered_picture width height units =
+-- a decoded picture and its picture order count (8.3.1)
+pub record DecodedPicture : Type 0 where
+  pub PicOrderCntVal : ℕ
+  pub picture : Picture
+
+-- A picture of these sides with this slice header and this list 0, before the in-loop filters, where
+-- all units are blank: the first block predicts from nothing, which stands for 128 (8.4.4.2.2), and
+-- DC of samples that are all 128 is 128 (8.4.4.2.5); no level adds to it. So far there are no
+-- samples of other units.
+abbrev pub unfiltered_picture :
+    ℕ → ℕ → SliceHeader → List DecodedPicture → List CodingTreeUnit → Option Picture
+unfiltered_picture width height header references units =
     cond (list_all is_blank units) (Some (grey width height)) None
 
 -- behind them
@@ -56,6 +64,7 @@ filtered_picture units picture =
     sao_picture (deblocked_picture picture) (map (λ unit. unit.sao) units)
 
 -- the picture of these sides that coding tree units stand for, as a decoder makes it
-abbrev pub reconstructed : ℕ → ℕ → List CodingTreeUnit → Option Picture
-reconstructed width height units =
-    option_map (filtered_picture units) (unfiltered_picture width height units)
+abbrev pub reconstructed :
+    ℕ → ℕ → SliceHeader → List DecodedPicture → List CodingTreeUnit → Option Picture
+reconstructed width height header references units =
+    option_map (filtered_picture units) (unfiltered_picture width height header references units)

@@ -2,6 +2,8 @@
 
 ghost use Rattle.hv_model.specs.PayloadLaws.{ParametersAreRead, AlignmentIsRead, SliceDataIsRead, SlicesAreRead, SlicesEnd};
 
+use hv_stream_model::{other_slices_are_codable, other_slices_are_read};
+
 /// A parameter set's payload (7.3.2), its fields with rbsp_trailing_bits (7.3.2.11), is read as the
 /// value that the script reads from the fields.
 pub fn parameters_are_read<A>()
@@ -13,20 +15,25 @@ pub fn alignment_is_read()
     ensures { AlignmentIsRead }
 {}
 
-/// The slice data (7.3.8.1) of at least one coding tree block of an I slice, the code word of
-/// coding tree units that may be coded there with zeros to the byte, is read as these units.
+/// The slice data (7.3.8.1) of at least one coding tree block, the code word of coding tree units
+/// that may be coded there with zeros to the byte, is read as these units: in slices of both kinds,
+/// with any number of references.
 pub fn slice_data_is_read()
     ensures { SliceDataIsRead }
 {}
 
-/// An IDR picture's unit, made with a slice header (7.3.6) and the slice data of all coding tree
-/// blocks of a picture of some size, shows the picture of their coding tree units, cropped by the
-/// conformance window. So far it shows none where something was chosen in them.
+/// A picture's unit, made with a slice header (7.3.6) of this profile and the slice data of all
+/// coding tree blocks of a picture of some size, is read as this header and these coding tree units.
+/// It has type 20 for an IDR picture and type 1 for others, and may be an I or a P slice there.
 pub fn slices_are_read()
     ensures { SlicesAreRead }
-{}
+{
+    other_slices_are_read();
+    other_slices_are_codable();
+}
 
-/// The payload of such a unit, with any coding tree units, ends in a byte other than 0 (7.4.2).
+/// The payload of such a unit, with any header and any coding tree units, ends in a byte other than
+/// 0 (7.4.2).
 pub fn slices_end()
     ensures { SlicesEnd }
 {}

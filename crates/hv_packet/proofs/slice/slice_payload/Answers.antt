@@ -9,6 +9,7 @@ use Rattle.hv_stream_model.specs.Headers.{idr_slice}
 use Rattle.hv_unit_model.specs.Sites.{sites}
 use Rattle.hv_types.specs.declared.settings.Settings.{Settings}
 use Rattle.hv_types.specs.Configuration.{padded_width, padded_height}
+use Rattle.hv_model.specs.Slices.{idr_header}
 use Rattle.hv_model.specs.Encoding.{coded_units, slice_data_of, slice_payload, picture_sites}
 use Rattle.hv_packet.proofs.slice.slice_payload.Goals as goal
 
@@ -34,5 +35,5 @@ returns c =
     (c.aligned_bits_are_whole.ensures fields)) in
     record {
       value = value;
-      ends = λ none. c.slices_end.ensures qp places (coded_units places) (ap last_of (sym value) ∙ none);
+      ends = λ none. c.slices_end.ensures (idr_header qp) places (coded_units places) (ap last_of (sym value) ∙ none);
     }

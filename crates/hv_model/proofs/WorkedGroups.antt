@@ -1,0 +1,83 @@
+-- A group of five pictures of 8x8 with two temporal levels, as another encoder writes it: what is
+-- parsed and shown of its bytes, computed by the definitions.
+use Rattle.std.proofs.Common.{◌≡◌, ℕ, Bool, true, false, List, [], ◌∷◌, map, refl}
+use Rattle.std.specs.Prelude.{Option, Some, None, option_map, replicate}
+use Rattle.hv_types.specs.declared.bins.SliceKind.TheVariants.{I, P}
+use Rattle.hv_types.specs.Video.{crop}
+use Rattle.hv_stream_model.specs.Bits.{first_bytes}
+use Rattle.hv_entropy_model.specs.Contexts.{lps_width, next_variable, first_variables}
+use Rattle.hv_entropy_model.specs.CodeWord.{shift_of}
+use Rattle.hv_stream_model.specs.Fields.{log2_of}
+use Rattle.hv_group_model.specs.Structure.{Kept}
+use Rattle.hv_stream_model.specs.Headers.{SliceHeader}
+use Rattle.hv_residual_model.specs.Binarization.{truncated_unary}
+use Rattle.hv_unit_model.specs.Trees.{no_levels, no_units}
+use Rattle.hv_unit_model.specs.Sites.{sites, column_of, row_of, address_of, crosses, is_outside}
+use Rattle.hv_unit_model.specs.EarlierUnits.{look_picture}
+use Rattle.hv_unit_model.specs.MostProbableModes.{candModeList, mode_of_remaining}
+use Rattle.hv_unit_model.specs.BlockSyntax.{sao, luma_mode, block_levels, transform_unit, quarters, transform_tree, intra_unit, coding_unit, coding_quadtree}
+use Rattle.hv_model.specs.ModeDecision.{blank_node}
+use Rattle.hv_model.specs.Slices.{idr_header, list_0}
+use Rattle.hv_model.specs.Parsing.{Sequence, CodedPicture, parsed_of}
+use Rattle.hv_model.specs.Reconstruction.{grey}
+use Rattle.hv_model.specs.Encoding.{coded_units}
+use Rattle.hv_model.specs.Decoding.{shown_of, decode_of}
+
+abbrev five_pictures : List ℕ
+five_pictures =
+    0x00 ∷ 0x00 ∷ 0x00 ∷ 0x01 ∷ 0x40 ∷ 0x01 ∷ 0x0C ∷ 0x01 ∷ 0xFF ∷ 0xFF ∷ 0x01 ∷ 0x60 ∷ 0x00 ∷
+    0x00 ∷ 0x03 ∷ 0x00 ∷ 0x90 ∷ 0x00 ∷ 0x00 ∷ 0x03 ∷ 0x00 ∷ 0x00 ∷ 0x03 ∷ 0x00 ∷ 0x99 ∷ 0x91 ∷
+    0xC0 ∷ 0x90 ∷
+    0x00 ∷ 0x00 ∷ 0x00 ∷ 0x01 ∷ 0x42 ∷ 0x01 ∷ 0x01 ∷ 0x01 ∷ 0x60 ∷ 0x00 ∷ 0x00 ∷ 0x03 ∷ 0x00 ∷
+    0x90 ∷ 0x00 ∷ 0x00 ∷ 0x03 ∷ 0x00 ∷ 0x00 ∷ 0x03 ∷ 0x00 ∷ 0x99 ∷ 0xA1 ∷ 0x22 ∷ 0x59 ∷ 0x64 ∷
+    0x79 ∷ 0x24 ∷ 0xCA ∷ 0x08 ∷
+    0x00 ∷ 0x00 ∷ 0x00 ∷ 0x01 ∷ 0x44 ∷ 0x01 ∷ 0xC0 ∷ 0x71 ∷ 0x80 ∷ 0x12 ∷
+    0x00 ∷ 0x00 ∷ 0x00 ∷ 0x01 ∷ 0x28 ∷ 0x01 ∷ 0xAF ∷ 0x19 ∷ 0xF1 ∷ 0xAA ∷ 0x60 ∷
+    0x00 ∷ 0x00 ∷ 0x00 ∷ 0x01 ∷ 0x02 ∷ 0x01 ∷ 0xD0 ∷ 0x21 ∷ 0x49 ∷ 0xF2 ∷ 0x8E ∷ 0x80 ∷ 0xF7 ∷
+    0x52 ∷ 0x76 ∷
+    0x00 ∷ 0x00 ∷ 0x00 ∷ 0x01 ∷ 0x02 ∷ 0x01 ∷ 0xD0 ∷ 0x11 ∷ 0x25 ∷ 0x5E ∷ 0x8A ∷ 0x10 ∷ 0x80 ∷
+    0xF8 ∷ 0x75 ∷ 0x6E ∷
+    0x00 ∷ 0x00 ∷ 0x00 ∷ 0x01 ∷ 0x02 ∷ 0x01 ∷ 0xD0 ∷ 0x09 ∷ 0x3F ∷ 0x4E ∷ 0x8A ∷ 0x12 ∷ 0x80 ∷
+    0xF8 ∷ 0x25 ∷ 0x6E ∷
+    0x00 ∷ 0x00 ∷ 0x00 ∷ 0x01 ∷ 0x02 ∷ 0x01 ∷ 0xD0 ∷ 0x19 ∷ 0x2F ∷ 0xE8 ∷ 0xA1 ∷ 0x28 ∷ 0xF8 ∷
+    0x25 ∷ 0x6E ∷ []
+
+abbrev kept : ℕ → Bool → Kept
+kept distance is_used = record { distance = distance; is_used = is_used }
+
+abbrev coded : SliceHeader → CodedPicture
+coded header = record { header = header; units = coded_units (sites 8 8) }
+
+abbrev other : ℕ → List Kept → List Kept → ℕ → CodedPicture
+other count before after qp = coded (record {
+  slice_type = P;
+  slice_pic_order_cnt_lsb = count;
+  references = record { before = before; after = after };
+  qp = qp;
+})
+
+-- in coding order: the pictures 0 4 2 1 3
+abbrev five_coded : Sequence
+five_coded = record {
+  size = record {
+    pic_width_in_luma_samples = 8;
+    pic_height_in_luma_samples = 8;
+    conf_win_right_offset = 0;
+    conf_win_bottom_offset = 0;
+  };
+  pictures =
+      coded (idr_header 32) ∷
+      other 4 (kept 4 true ∷ []) [] 33 ∷
+      other 2 (kept 2 true ∷ []) (kept 2 true ∷ []) 34 ∷
+      other 1 (kept 1 true ∷ []) (kept 1 true ∷ kept 3 false ∷ []) 35 ∷
+      other 3 (kept 1 true ∷ []) (kept 1 true ∷ []) 35 ∷
+      [];
+}
+
+five_parsed : parsed_of five_pictures ≡ Some (five_coded ∷ [])
+unfolding first_bytes lps_width next_variable first_variables shift_of log2_of sites sao coding_quadtree coding_unit intra_unit luma_mode candModeList mode_of_remaining truncated_unary transform_tree quarters transform_unit block_levels no_units no_levels look_picture column_of row_of address_of crosses is_outside blank_node
+five_parsed = refl
+
+five_shown : decode_of five_pictures ≡ Some (replicate 5 (crop (grey 8 8) 8 8))
+unfolding first_bytes lps_width next_variable first_variables shift_of log2_of sites sao coding_quadtree coding_unit intra_unit luma_mode candModeList mode_of_remaining truncated_unary transform_tree quarters transform_unit block_levels no_units no_levels look_picture column_of row_of address_of crosses is_outside
+five_shown = refl

@@ -1,0 +1,64 @@
+-- The slice of a picture, IDR picture or not: its header by one record, the pictures that its
+-- reference picture set names (8.3.2), and list 0 (8.3.4).
+use Rattle.std.specs.Prelude.{ℕ, ◌+◌, ◌-◌, Bool, cond, nat_eq, List, [], ◌++◌, map, filter}
+use Rattle.hv_types.specs.declared.bins.SliceKind.TheVariants.{I}
+use Rattle.hv_group_model.specs.Structure.{Kept, ReferenceSet}
+use Rattle.hv_stream_model.specs.Units.{TRAIL_R, IDR_N_LP}
+use Rattle.hv_stream_model.specs.Fields.{Field}
+use Rattle.hv_stream_model.specs.Headers.{SliceHeader, idr_slice, slice}
+
+-- ---- headers
+
+abbrev pub no_pictures : ReferenceSet
+no_pictures = record { before = []; after = [] }
+
+-- an IDR picture in the terms of the others: an I slice, the picture order count 0 (8.3.1), and a
+-- reference picture set without pictures (8.3.2)
+abbrev pub idr_header : ℕ → SliceHeader
+idr_header qp = record {
+  slice_type = I;
+  slice_pic_order_cnt_lsb = 0;
+  references = no_pictures;
+  qp = qp;
+}
+
+-- PicOrderCntVal: in this profile what slice_pic_order_cnt_lsb says (8.3.1)
+abbrev pub count_of : SliceHeader → ℕ
+count_of header = header.slice_pic_order_cnt_lsb
+
+-- the other pictures of a sequence have counts from 1 on
+abbrev pub is_idr : SliceHeader → Bool
+is_idr header = nat_eq (count_of header) 0
+
+abbrev pub nal_unit_type_of : SliceHeader → ℕ
+nal_unit_type_of header = cond (is_idr header) IDR_N_LP TRAIL_R
+
+-- slice_segment_header (7.3.6.1)
+abbrev pub header_fields : SliceHeader → List Field
+header_fields header = cond (is_idr header) (idr_slice header.qp) (slice header)
+
+-- ---- reference pictures, by their counts
+
+-- of the picture of this count, those at these distances before it, and those behind it: no set is
+-- read that names a picture before the first
+abbrev pub counts_before : ℕ → List Kept → List ℕ
+counts_before count side = map (λ kept. count - kept.distance) side
+
+abbrev pub counts_after : ℕ → List Kept → List ℕ
+counts_after count side = map (λ kept. count + kept.distance) side
+
+-- the pictures that the set names (8.3.2)
+abbrev pub set_counts : SliceHeader → List ℕ
+set_counts header =
+    counts_before (count_of header) header.references.before ++
+    counts_after (count_of header) header.references.after
+
+abbrev pub used : List Kept → List Kept
+used side = filter (λ kept. kept.is_used) side
+
+-- RefPicList0 (8.3.4): the used ones before the picture, the nearest first, which are
+-- PocStCurrBefore, and then those behind it, the nearest first, which are PocStCurrAfter
+abbrev pub list_0 : SliceHeader → List ℕ
+list_0 header =
+    counts_before (count_of header) (used header.references.before) ++
+    counts_after (count_of header) (used header.references.after)

@@ -1,0 +1,5 @@
+pub mod BlockEdges
+pub mod Edges
+pub mod Lending
+pub mod Plans
+pub mod Samples

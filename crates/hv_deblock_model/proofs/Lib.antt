@@ -1,0 +1,3 @@
+mod WorkedDeblocking
+mod WorkedEdges
+mod WorkedStrengths

@@ -1,0 +1,4 @@
+pub mod CodedSquares
+pub mod Deblocking
+pub mod EdgeFilters
+pub mod EdgeStrength

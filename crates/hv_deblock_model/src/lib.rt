@@ -1,0 +1,9 @@
+//! Deblocking as a definition (8.7.2), and the types that it speaks of: how a square of 8x8 luma
+//! samples is coded, and the samples across an edge.
+#![tactic(auto)]
+
+mod coding;
+mod line;
+
+pub use coding::SquareCoding;
+pub use line::{Line, Side};

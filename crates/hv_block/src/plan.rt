@@ -2,7 +2,7 @@
 
 ghost use Rattle.std.specs.Prelude.{◌≡◌, ◌+◌, ◌-◌, ◌^◌, ◌≤◌, length, IfOk, All};
 ghost use Rattle.std.specs.Borrow.{sem};
-ghost use Rattle.hv_block.specs.Plans.{with_units};
+ghost use Rattle.hv_block.specs.Plans.{HasDepth, with_units};
 
 use hv_plan::{Pred, Unit};
 use hv_types::NoMemory;
@@ -40,7 +40,7 @@ impl Model for CtbPlan {
 }
 
 impl CtbPlan {
-    ghost use Rattle.hv_block.specs.Plans.{HasDepth, opening_plan, with_leaf};
+    ghost use Rattle.hv_block.specs.Plans.{opening_plan, with_leaf};
     ghost use Rattle.hv_block.specs.Lending.{LendsLuma, LendsCb, LendsCr};
 
     /// A plan of one intra unit of 64x64 with DC prediction (`IntraPredModeY` 1), and levels of 0.
@@ -155,10 +155,13 @@ fn squares(size: u8) -> usize
     }
 }
 
-/// Puts `unit` in `count` places from `first` on.
+/// Puts `unit` in `count` places from `first` on. None lies deeper than 3.
 fn fill_units(units: &mut [Unit], first: usize, count: usize, unit: Unit)
     requires fits { first + count ≤ length units.old }
-    ensures { units.new ≡ with_units units.old first count unit }
+    requires depth { HasDepth unit }
+    requires depths { All HasDepth units.old }
+    ensures value { units.new ≡ with_units units.old first count unit }
+    ensures depths { All HasDepth units.new }
 {
     units[first..first + count].fill(unit);
 }

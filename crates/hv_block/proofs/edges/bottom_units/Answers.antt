@@ -14,7 +14,8 @@ loop-column-init c = (refl, refl)
 pub loop-column-preserved : goal.loop-column-preserved
 loop-column-preserved c = (
   length-set c.loop-column.out c.loop-column.column _ ∙ c.loop-column.invariant.0,
-  tabulate-filled (λ column. unit_at c.args.units.now column 7) c.loop-column.out c.loop-column.column _
+  tabulate-filled (λ column. unit_at c.args.units.now column 7) c.loop-column.out
+      c.loop-column.column _
       (omega (arith, c.loop-column.invariant.0)) c.loop-column.invariant.1
       (get_or_default c.args.units.now c.address_of.result _ opening_unit (omega arith) ∙
       ap (λ a. slice_index_or c.args.units.now a opening_unit) c.address_of.ensures.value),

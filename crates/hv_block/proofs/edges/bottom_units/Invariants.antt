@@ -5,4 +5,5 @@ use Rattle.hv_block.proofs.edges.bottom_units.Given as goal
 
 abbrev pub invariant-loop-column : goal.invariant-loop-column
 invariant-loop-column l =
-    (length l.out ≡ 8) × (take l.column l.out ≡ tabulate l.column (λ column. unit_at l.units column 7))
+    (length l.out ≡ 8) ×
+    (take l.column l.out ≡ tabulate l.column (λ column. unit_at l.units column 7))

@@ -22,5 +22,8 @@ loop-y-preserved g c =
 pub returns : goal.returns
 returns g c =
     let all : c.loop-y.y ≡ g.row.SIDE = omega arith in
-    let P : ℕ → Type 0 = λ n. take n c.loop-y.out ≡ tabulate n (λ y. slice_index c.args.samples.now (y * g.row.SIDE + (g.row.SIDE - 1))) in
-    sym (take_all g.row.SIDE c.loop-y.out (omega (arith, c.loop-y.invariant.0))) ∙ subst P all c.loop-y.invariant.1
+    let Filled : ℕ → Type 0 =
+    λ n. take n c.loop-y.out ≡
+    tabulate n (λ y. slice_index c.args.samples.now (y * g.row.SIDE + (g.row.SIDE - 1))) in
+    sym (take_all g.row.SIDE c.loop-y.out (omega (arith, c.loop-y.invariant.0))) ∙
+    subst Filled all c.loop-y.invariant.1

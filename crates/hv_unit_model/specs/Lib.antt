@@ -7,3 +7,4 @@ pub mod BlockSyntax
 pub mod Bins
 pub mod UnitLaws
 pub mod Plans
+pub mod PlanLaws

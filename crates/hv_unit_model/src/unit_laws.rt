@@ -1,6 +1,7 @@
 //! What is read of the bins of slice data is what was coded.
 
 ghost use Rattle.hv_unit_model.specs.UnitLaws.{OffsetsAreReadBack, NodesAreReadBack, CodingTreeUnitsAreRead, SliceDataIsReadBack, OffsetsThatAreReadMayBeCoded, NodesThatAreReadMayBeCoded, SliceDataThatIsReadMayBeCoded, OffsetsAskForVariablesThatAreThere, NodesAskForVariablesThatAreThere, SitesAreThere, AddressesArePlaces, PlacesHaveAddresses, NodesAreSquares, NodesHaveTheirSquares};
+ghost use Rattle.hv_unit_model.specs.PlanLaws.{BlocksAroundAreThoseOfPicture, BinsInBlockAreThoseInPicture, PlansAreAppended};
 
 /// At each coding tree block the script of sample adaptive offsets (7.3.8.3) reads the offsets from
 /// their bins, where offsets are in their ranges and Cb and Cr have type and class in common.
@@ -82,4 +83,21 @@ pub fn offsets_ask_for_variables_that_are_there()
 /// kind (9.3.4.2).
 pub fn nodes_ask_for_variables_that_are_there()
     ensures { NodesAskForVariablesThatAreThere }
+{}
+
+/// From a coding tree block the plans of the blocks around it, as far as they come before it, show
+/// the same squares as the picture (6.4.1): in the columns and rows of squares from the one before
+/// the block to the eighth behind it.
+pub fn blocks_around_are_those_of_picture()
+    ensures { BlocksAroundAreThoseOfPicture }
+{}
+
+/// The bins of a node are the same by what the blocks around show as by the picture.
+pub fn bins_in_block_are_those_in_picture()
+    ensures { BinsInBlockAreThoseInPicture }
+{}
+
+/// The squares of a plan come behind those of the plans of the blocks before.
+pub fn plans_are_appended()
+    ensures { PlansAreAppended }
 {}

@@ -1,1 +1,3 @@
+pub mod DecodedLemmas
+pub mod PictureLemmas
 mod WorkedReconstructions

@@ -1,1 +1,2 @@
 pub mod Reconstruction
+pub mod ReconstructionLaws

@@ -1,2 +1,7 @@
-//! The decoded picture before the in-loop filters (8.4, 8.6) as a definition, in `specs/`.
+//! The decoded picture before the in-loop filters (8.4, 8.6) as a definition, in `specs/`. The
+//! functions here are empty, and each carries a law of the definition as its contract.
 #![tactic(auto)]
+
+mod reconstruction_laws;
+
+pub use reconstruction_laws::every_sample_is_decoded;

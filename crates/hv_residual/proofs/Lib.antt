@@ -5,7 +5,7 @@ mod EarlierLemmas
 mod FlagLemmas
 mod GatheringLemmas
 mod LastLemmas
-mod PuttingLemmas
+pub mod PuttingLemmas
 mod RemainingLemmas
 mod ResidualLemmas
 mod ScanLemmas

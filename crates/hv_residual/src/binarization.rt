@@ -29,7 +29,7 @@ pub fn put_fixed_length<B: BinSink>(sink: &mut B, length: u8, value: u32)
 }
 
 /// Puts a number in Exp-Golomb of order `k` (9.3.3.5).
-fn put_exp_golomb<B: BinSink>(sink: &mut B, k: u8, value: u32)
+pub fn put_exp_golomb<B: BinSink>(sink: &mut B, k: u8, value: u32)
     requires order { k ≤ 8 }
     requires most { value < 524288 }
     ensures { PutsUnit B.stands_for sink.old sink.new (exp_golomb_bins 32 k value) }
@@ -45,18 +45,18 @@ fn put_exp_golomb<B: BinSink>(sink: &mut B, k: u8, value: u32)
     put_fixed_length(sink, order, rest);
 }
 
-/// Puts the prefix of coeff_abs_level_remaining (9.3.3.11): as many ones, and a zero where there
-/// are fewer than four.
+/// Puts a number in truncated unary where cMax is `most` (9.3.3.2), in bypass: as many ones, and a
+/// zero where there are fewer than `most`.
 #[inline(always)]
-fn put_prefix<B: BinSink>(sink: &mut B, prefix: u8)
-    requires { prefix ≤ 4 }
+pub fn put_truncated_unary<B: BinSink>(sink: &mut B, most: u8, value: u8)
+    requires { value ≤ most }
     ensures { PutsUnit B.stands_for sink.old sink.new
-        (truncated_unary_bins bypass_at 4 0 prefix) }
+        (truncated_unary_bins bypass_at most 0 value) }
 {
-    for i in 0..prefix {
+    for i in 0..value {
         sink.bypass(true);
     }
-    if prefix < 4 {
+    if value < most {
         sink.bypass(false);
     }
 }
@@ -69,10 +69,10 @@ pub fn put_remaining<B: BinSink>(sink: &mut B, k: u8, value: u32)
 {
     let prefix = value / power(k);
     if prefix < 4 {
-        put_prefix(sink, prefix as u8);
+        put_truncated_unary(sink, 4, prefix as u8);
         put_fixed_length(sink, k, value);
     } else {
-        put_prefix(sink, 4);
+        put_truncated_unary(sink, 4, 4);
         put_exp_golomb(sink, k + 1, value - 4 * power(k));
     }
 }

@@ -22,7 +22,7 @@ use hv_plan::Scan;
 
 /// The length of a number in Exp-Golomb of order `k` (9.3.3.5).
 #[inline(always)]
-fn count_exp_golomb(k: u8, value: u32) -> u32
+pub fn count_exp_golomb(k: u8, value: u32) -> u32
     requires order { k ≤ 8 }
     requires most { value < 524288 }
     ensures value { result ≡ length (exp_golomb_bins 32 k value) }

@@ -1,0 +1,10 @@
+mod AroundLemmas
+mod ChainLemmas
+mod LeafLemmas
+mod ModeLemmas
+mod NodeLemmas
+mod OffsetLemmas
+mod PartLemmas
+mod QuadtreeLemmas
+mod SeenLemmas
+mod UnitLemmas

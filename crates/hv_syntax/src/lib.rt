@@ -1,0 +1,23 @@
+//! Coding tree units as bins (7.3.8): sample adaptive offsets, the coding quadtree, prediction,
+//! transform trees, and `end_of_slice_segment_flag`. Nothing here takes memory, and each call always
+//! answers.
+#![tactic(auto)]
+
+mod addresses;
+mod block;
+mod coding_unit;
+mod elements;
+mod leaves;
+mod levels;
+mod modes;
+mod motion;
+mod offsets;
+mod quadtree;
+mod seen;
+mod site;
+mod transform;
+mod unit;
+
+pub use block::{Beside, Plan};
+pub use modes::most_probable;
+pub use unit::put_ctb;

@@ -1,4 +1,5 @@
 pub mod Blocks
 pub mod Levels
+pub mod Neighbours
 pub mod Parts
 pub mod Squares

@@ -11,6 +11,7 @@ mod leaves;
 mod levels;
 mod modes;
 mod motion;
+mod near;
 mod offsets;
 mod quadtree;
 mod seen;
@@ -18,6 +19,5 @@ mod site;
 mod transform;
 mod unit;
 
-pub use block::{Beside, Plan};
 pub use modes::most_probable;
 pub use unit::put_ctb;

@@ -2,14 +2,16 @@
 
 ghost use Rattle.std.specs.Prelude.{◌≡◌, ◌<◌, [], ◌∷◌};
 ghost use Rattle.hv_types.specs.Bins.{Puts, terminate_bin};
-ghost use Rattle.hv_unit_model.specs.Plans.{UnitsAround, NamesItsUnits, tree_of, in_block};
+ghost use Rattle.hv_unit_model.specs.Plans.{NamesItsUnits, tree_of, in_block};
 ghost use Rattle.hv_unit_model.specs.Bins.{bins};
-ghost use Rattle.hv_syntax.specs.Blocks.{lists_of, AreBeside};
+ghost use Rattle.hv_syntax.specs.Neighbours.{lists_of_plan, around_of};
 
-use crate::block::{Beside, Block, Plan};
+use crate::block::Block;
+use crate::near::{beside, view};
 use crate::offsets::put_offsets;
 use crate::quadtree::put_node;
 use crate::site::Site;
+use hv_block::{CtbPlan, Neighbours};
 use hv_plan::{Place, SaoParam};
 use hv_types::{BinSink, SliceKind};
 
@@ -24,17 +26,17 @@ pub fn put_ctb<B: BinSink>(
     kind: SliceKind,
     references: u8,
     place: Place,
-    beside: &Beside,
-    plan: &Plan,
+    near: &Neighbours,
+    plan: &CtbPlan,
     sao: &SaoParam,
     last: bool,
 )
     requires width { 0 < place.width }
-    requires names { NamesItsUnits place (lists_of plan.now) }
-    ensures { (around : UnitsAround) → AreBeside beside.now around →
-        Puts B.stands_for sink.old sink.new (bins (in_block kind references place around) record {
+    requires names { NamesItsUnits place (lists_of_plan plan.now) }
+    ensures { Puts B.stands_for sink.old sink.new
+        (bins (in_block kind references place (around_of near.now)) record {
           sao = sao.now;
-          tree = tree_of place (lists_of plan.now);
+          tree = tree_of place (lists_of_plan plan.now);
           end_of_slice_segment_flag = last;
         }) }
 {
@@ -43,8 +45,8 @@ pub fn put_ctb<B: BinSink>(
         kind,
         references,
         site,
-        beside: *beside,
-        plan: *plan,
+        beside: beside(near),
+        plan: view(plan),
     };
     put_offsets(sink, &site, sao);
     put_node(sink, &block, 3, 0);

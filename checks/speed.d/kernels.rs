@@ -2,6 +2,7 @@
 //! compiler turns into vector instructions as well as it can, and the writers of bits and of NAL
 //! units as `crates/hv_bits` has them; intra prediction as `crates/hv_intra` has it, and transforms
 //! as `crates/hv_transform` has them. Levels are in a file of their own.
+mod cabac;
 mod hand;
 mod levels;
 

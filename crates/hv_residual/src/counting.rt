@@ -93,10 +93,12 @@ fn count_levels(levels: &[i16]) -> u32
     ensures value { result ≡ level_count levels.now }
     ensures most { result ≤ 1049 }
 {
-    let nonzero = nonzero_levels(levels);
-    let magnitudes = &nonzero.magnitudes[..nonzero.count];
+    let mut all = [0; 16];
+    let mut negative = [false; 16];
+    let nonzero = nonzero_levels(levels, &mut all, &mut negative);
+    let magnitudes = &all[..nonzero];
     let first = first_above_1(magnitudes);
-    let count = nonzero.count as u32;
+    let count = nonzero as u32;
     let remaining = count_all_remaining(magnitudes, first > 2);
     count.min(8) + (u32::from(first > 1) + (count + remaining))
 }

@@ -30,37 +30,23 @@ pub fn any_significant(levels: &[i16]) -> bool
     false
 }
 
-/// The levels of a sub-block that aren't 0, from the last one down: magnitudes and signs of the
-/// first `count` entries.
-#[derive(Clone, Copy)]
-pub struct Significant {
-    pub magnitudes: [u16; 16],
-    pub negative: [bool; 16],
-    pub count: usize,
-    pub ghost few: { count ≤ 16 },
-}
-
-/// Those of these levels that aren't 0.
+/// Writes the magnitudes and signs of those of these levels that aren't 0 to the first entries, in
+/// their order, and says how many they are.
 #[inline(always)]
-pub fn nonzero_levels(levels: &[i16]) -> Significant
+pub fn nonzero_levels(levels: &[i16], all: &mut [u16; 16], negative: &mut [bool; 16]) -> usize
     requires { length levels.now ≤ 16 }
-    ensures magnitudes { take result.count result.magnitudes ≡ magnitudes levels.now }
-    ensures signs { take result.count result.negative ≡ signs levels.now }
-    ensures count { result.count ≡ length (magnitudes levels.now) }
+    ensures magnitudes { take result all.new ≡ magnitudes levels.now }
+    ensures signs { take result negative.new ≡ signs levels.now }
+    ensures count { result ≡ length (magnitudes levels.now) }
+    ensures few { result ≤ 16 }
 {
-    let mut all = [0u16; 16];
-    let mut negative = [false; 16];
     let mut count = 0usize;
     for level in levels {
         all[count] = level.unsigned_abs();
         negative[count] = level.is_negative();
         count += usize::from(is_significant(*level));
     }
-    Significant {
-        magnitudes: all,
-        negative,
-        count,
-    }
+    count
 }
 
 /// Whether sig_coeff_flag at a position is left out: it is sure to be 1, and the last one.

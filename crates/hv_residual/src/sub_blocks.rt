@@ -36,14 +36,16 @@ fn put_levels<B: BinSink>(sink: &mut B, block: Block, set: u8, had: bool, levels
         (level_bins (block_of block) set levels.now) }
     ensures had { result ≡ had_greater1_after had (greater1_of levels.now) }
 {
-    let nonzero = nonzero_levels(levels);
-    let magnitudes = &nonzero.magnitudes[..nonzero.count];
+    let mut all = [0; 16];
+    let mut negative = [false; 16];
+    let count = nonzero_levels(levels, &mut all, &mut negative);
+    let magnitudes = &all[..count];
     let first = first_above_1(magnitudes);
     put_greater1(sink, block, set, magnitudes);
     put_greater2(sink, block, set, magnitudes, first);
-    put_signs(sink, &nonzero.negative[..nonzero.count]);
+    put_signs(sink, &negative[..count]);
     put_all_remaining(sink, magnitudes, first > 2);
-    had_after(had, nonzero.count, first)
+    had_after(had, count, first)
 }
 
 /// Puts what follows a coded_sub_block_flag that is 1, or inferred to be 1, from those of the

@@ -5,9 +5,9 @@ use Rattle.hv_residual.proofs.counting.count_levels.Goals as goal
 
 pub returns-clause-value : goal.returns-clause-value
 returns-clause-value c =
-    let r = c.nonzero_levels-nonzero.result in
-    level_count_parts c.args.levels.now (take r.count r.magnitudes) r.count c.first_above_1-first.result
+    let r = c.nonzero_levels-nonzero in
+    level_count_parts c.args.levels.now (take r.result r.new.all) r.result c.first_above_1-first.result
     c.min.result c.from.result c.count_all_remaining-remaining.result
-    c.nonzero_levels-nonzero.ensures.magnitudes c.nonzero_levels-nonzero.ensures.count
+    r.ensures.magnitudes r.ensures.count
     c.first_above_1-first.ensures (omega (arith, c.min.ensures)) (c.from.ensures ∙ one_of _)
     c.count_all_remaining-remaining.ensures.value

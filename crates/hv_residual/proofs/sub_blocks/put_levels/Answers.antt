@@ -6,11 +6,11 @@ use Rattle.hv_residual.proofs.sub_blocks.put_levels.Goals as goal
 
 pub returns-clause-puts : goal.returns-clause-puts
 returns-clause-puts g c =
-    let r = c.nonzero_levels-nonzero.result in
+    let r = c.nonzero_levels-count in
     puts_same g.B.BinSink.stands_for _ _ _ _
-    (level_parts (block_of c.args.block) c.args.set c.args.levels.now (take r.count r.magnitudes)
-    (take r.count r.negative) c.first_above_1-first.result c.nonzero_levels-nonzero.ensures.magnitudes
-    c.nonzero_levels-nonzero.ensures.signs c.first_above_1-first.ensures)
+    (level_parts (block_of c.args.block) c.args.set c.args.levels.now (take r.result r.new.all)
+    (take r.result r.new.negative) c.first_above_1-first.result r.ensures.magnitudes
+    r.ensures.signs c.first_above_1-first.ensures)
     (puts_both g.B.BinSink.stands_for _ c.put_greater1.new.sink _ _ _ c.put_greater1.ensures
     (puts_both g.B.BinSink.stands_for _ c.put_greater2.new.sink _ _ _ c.put_greater2.ensures
     (puts_both g.B.BinSink.stands_for _ c.put_signs.new.sink _ _ _ c.put_signs.ensures
@@ -18,8 +18,8 @@ returns-clause-puts g c =
 
 pub returns-clause-had : goal.returns-clause-had
 returns-clause-had g c =
-    let r = c.nonzero_levels-nonzero.result in
+    let r = c.nonzero_levels-count in
     c.had_after.ensures ∙
-    had_is c.args.had c.args.levels.now (take r.count r.magnitudes) r.count c.first_above_1-first.result
-    c.nonzero_levels-nonzero.ensures.magnitudes c.nonzero_levels-nonzero.ensures.count
+    had_is c.args.had c.args.levels.now (take r.result r.new.all) r.result c.first_above_1-first.result
+    r.ensures.magnitudes r.ensures.count
     c.first_above_1-first.ensures

@@ -647,7 +647,18 @@ fn count_all_remaining(magnitudes: &[u16], greater2: bool) -> u32 {
 }
 
 #[inline(always)]
-fn count_levels(levels: &[i16]) -> u32 {
+fn greatest_magnitude(levels: &[i16]) -> u16 {
+    levels.iter().map(|level| level.unsigned_abs()).max().unwrap_or(0)
+}
+
+#[inline(always)]
+fn count_small_levels(levels: &[i16]) -> u32 {
+    let bins = levels.iter().map(|&level| level.unsigned_abs() + u16::from(level != 0));
+    u32::from(bins.sum::<u16>())
+}
+
+#[inline(always)]
+fn count_all_levels(levels: &[i16]) -> u32 {
     let mut all = [0; 16];
     let mut negative = [false; 16];
     let count = nonzero_levels(levels, &mut all, &mut negative);
@@ -656,6 +667,14 @@ fn count_levels(levels: &[i16]) -> u32 {
     let count = count as u32;
     let remaining = count_all_remaining(magnitudes, first > 2);
     count.min(8) + u32::from(first > 1) + count + remaining
+}
+
+#[inline(always)]
+fn count_levels(levels: &[i16]) -> u32 {
+    if greatest_magnitude(levels) <= 3 {
+        return count_small_levels(levels);
+    }
+    count_all_levels(levels)
 }
 
 #[inline(always)]

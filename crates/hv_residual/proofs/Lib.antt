@@ -10,3 +10,4 @@ mod RemainingLemmas
 mod ResidualLemmas
 mod ScanLemmas
 mod SignificanceLemmas
+mod SmallLevelLemmas

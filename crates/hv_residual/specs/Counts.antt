@@ -1,5 +1,6 @@
 -- How many bins the parts of a transform block have, by their levels alone (7.3.8.11).
-use Rattle.std.specs.Prelude.{ℕ, zero, suc, ◌+◌, Bool, true, false, cond, not, ◌&&◌, min, List, [], ◌∷◌, ℤ, length}
+use Rattle.std.specs.Prelude.{ℕ, zero, suc, ◌+◌, Bool, true, false, cond, not, ◌&&◌, min, max, List, [], ◌∷◌, ℤ, length}
+use Rattle.std.specs.Int.RustNames.{unsigned_abs}
 use Rattle.hv_residual_model.specs.ResidualContexts.{TransformBlock}
 use Rattle.hv_residual_model.specs.ResidualSyntax.{any, positions}
 use Rattle.hv_residual_model.specs.ResidualBins.{is_significant, magnitudes, greater1_values, bases_of, all_remaining_bins, levels_below, coded_sub_block_value}
@@ -36,3 +37,15 @@ unfoldable pub sub_blocks_count : TransformBlock → List ℤ → ℕ → ℕ
 sub_blocks_count b levels zero = 0
 sub_blocks_count b levels (suc s) =
     sub_block_count s (levels_below b levels s positions) + sub_blocks_count b levels s
+
+-- ---- levels of magnitudes up to 3
+
+unfoldable pub greatest_magnitude : List ℤ → ℕ
+greatest_magnitude [] = 0
+greatest_magnitude (level ∷ levels) = max (unsigned_abs level) (greatest_magnitude levels)
+
+-- each that isn't 0 has as many bins as its magnitude, and its sign
+unfoldable pub small_count : List ℤ → ℕ
+small_count [] = 0
+small_count (level ∷ levels) =
+    unsigned_abs level + (cond (is_significant level) 1 0 + small_count levels)

@@ -8,7 +8,7 @@ ghost use Rattle.hv_residual_model.specs.ResidualSyntax.{bases, positions, suffi
 ghost use Rattle.hv_residual_model.specs.ResidualBins.{any_significant, residual_bins, all_remaining_bins, greater1_values, levels_below, last_bins, prefix_of};
 ghost use Rattle.hv_residual.specs.Blocks.{block_of};
 ghost use Rattle.hv_residual.specs.Levels.{one_remaining_bins, zeros_before};
-ghost use Rattle.hv_residual.specs.Counts.{sig_count, level_count, coded_count, flag_count, sub_block_count, sub_blocks_count};
+ghost use Rattle.hv_residual.specs.Counts.{sig_count, level_count, coded_count, flag_count, sub_block_count, sub_blocks_count, greatest_magnitude};
 
 use crate::binarization::power;
 use crate::block::Block;
@@ -16,7 +16,7 @@ use crate::flags::first_above_1;
 use crate::gathering::{Last, find_last, gather, zeros_before};
 use crate::last::{coded_position, prefix_of, suffix_length};
 use crate::remaining::{Base, base_of, rice_behind, still_first};
-use crate::significance::{any_significant, nonzero_levels};
+use crate::significance::{any_significant, is_significant, nonzero_levels};
 use crate::sub_blocks::flag_value;
 use hv_plan::Scan;
 
@@ -86,9 +86,37 @@ fn count_all_remaining(magnitudes: &[u16], greater2: bool) -> u32
     total
 }
 
-/// How many bins follow the significance of these levels.
+/// The greatest magnitude of these levels.
 #[inline(always)]
-fn count_levels(levels: &[i16]) -> u32
+fn greatest_magnitude(levels: &[i16]) -> u16
+    ensures { result ≡ greatest_magnitude levels.now }
+{
+    let mut greatest = 0u16;
+    for level in levels {
+        greatest = greatest.max(level.unsigned_abs());
+    }
+    greatest
+}
+
+/// How many bins follow the significance of levels of magnitudes up to 3: each that isn't 0 has as
+/// many as its magnitude, and its sign, since cRiceParam stays 0.
+#[inline(always)]
+fn count_small_levels(levels: &[i16]) -> u32
+    requires few { length levels.now ≤ 16 }
+    requires small { greatest_magnitude levels.now ≤ 3 }
+    ensures value { result ≡ level_count levels.now }
+    ensures most { result ≤ 1049 }
+{
+    let mut total = 0u16;
+    for level in levels {
+        total += level.unsigned_abs() + u16::from(is_significant(*level));
+    }
+    u32::from(total)
+}
+
+/// How many bins follow the significance of levels of any magnitude.
+#[inline(always)]
+fn count_all_levels(levels: &[i16]) -> u32
     requires { length levels.now ≤ 16 }
     ensures value { result ≡ level_count levels.now }
     ensures most { result ≤ 1049 }
@@ -101,6 +129,19 @@ fn count_levels(levels: &[i16]) -> u32
     let count = nonzero as u32;
     let remaining = count_all_remaining(magnitudes, first > 2);
     count.min(8) + (u32::from(first > 1) + (count + remaining))
+}
+
+/// How many bins follow the significance of these levels.
+#[inline(always)]
+fn count_levels(levels: &[i16]) -> u32
+    requires { length levels.now ≤ 16 }
+    ensures value { result ≡ level_count levels.now }
+    ensures most { result ≤ 1049 }
+{
+    if greatest_magnitude(levels) <= 3 {
+        return count_small_levels(levels);
+    }
+    count_all_levels(levels)
 }
 
 /// Whether sig_coeff_flag of the last of these levels is inferred: it is sure that one of them

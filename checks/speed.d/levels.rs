@@ -237,16 +237,25 @@ fn is_clear(levels: &[i16], block: Block, corner: Spot) -> bool {
 }
 
 #[inline(always)]
+fn by_rows(levels: &[i16], block: Block, corner: Spot) -> [i16; 28] {
+    let mut rows = [0; 28];
+    for (y, row) in rows.chunks_mut(8).enumerate() {
+        let at = ((4 * usize::from(corner.y) + y) << block.log2) + 4 * usize::from(corner.x);
+        row[..4].copy_from_slice(&levels[at..at + 4]);
+    }
+    rows
+}
+
+#[inline(always)]
 fn gather(levels: &[i16], block: Block, s: u8) -> [i16; 16] {
     let corner = sub_block(block, s);
     let mut all = [0; 16];
     if is_clear(levels, block, corner) {
         return all;
     }
-    for k in 0..16 {
-        let place = place_in(block.scan, 2, 15 - k);
-        let row = usize::from(4 * corner.y + place.y) << block.log2;
-        all[usize::from(k)] = levels[row + usize::from(4 * corner.x + place.x)];
+    let rows = by_rows(levels, block, corner);
+    for (level, &place) in all.iter_mut().zip(order(block.scan, 2).iter().rev()) {
+        *level = rows[usize::from(place)];
     }
     all
 }

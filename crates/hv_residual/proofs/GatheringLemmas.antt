@@ -7,7 +7,7 @@ use Rattle.hv_residual_model.specs.ScanOrder.{Position, at, position_at, block_p
 use Rattle.hv_residual_model.specs.ResidualContexts.{TransformBlock}
 use Rattle.hv_residual_model.specs.ResidualSyntax.{sub_block_at}
 use Rattle.hv_residual_model.specs.ResidualBins.{level_at, downwards, levels_below, is_significant, last_below, last_significant}
-use Rattle.hv_residual.specs.Levels.{zeros_before}
+use Rattle.hv_residual.specs.Levels.{zeros_before, with_gaps}
 use Rattle.hv_residual.proofs.FlagLemmas.{split_at}
 use Rattle.hv_residual.proofs.ScanLemmas.{inside_sub_block}
 
@@ -195,3 +195,38 @@ four_rows Holds a b c d first second third fourth all x (suc (suc (suc zero))) h
     fourth (and_parts c d (and_parts (a && b) (c && d) all).1).1 x h
 four_rows Holds a b c d first second third fourth all x (suc (suc (suc (suc y)))) h k =
     absurd (omega arith)
+
+-- ---- rows
+pub four_entries : (f : ℕ → ℤ) (a b c d : ℤ) → a ≡ f 0 → b ≡ f 1 → c ≡ f 2 → d ≡ f 3 →
+    (x : ℕ) → x < 4 → get_or (a ∷ b ∷ c ∷ d ∷ []) x (pos 0) ≡ f x
+four_entries f a b c d ea eb ec ed zero h = ea
+four_entries f a b c d ea eb ec ed (suc zero) h = eb
+four_entries f a b c d ea eb ec ed (suc (suc zero)) h = ec
+four_entries f a b c d ea eb ec ed (suc (suc (suc zero))) h = ed
+four_entries f a b c d ea eb ec ed (suc (suc (suc (suc x)))) h = absurd (omega arith)
+
+pub gaps_at : (f : ℕ → ℕ → ℤ) (a b c d : List ℤ) →
+    ((x : ℕ) → x < 4 → get_or a x (pos 0) ≡ f x 0) → ((x : ℕ) → x < 4 → get_or b x (pos 0) ≡ f x 1) →
+    ((x : ℕ) → x < 4 → get_or c x (pos 0) ≡ f x 2) → ((x : ℕ) → x < 4 → get_or d x (pos 0) ≡ f x 3) →
+    (x y : ℕ) → x < 4 → y < 4 → get_or (with_gaps a b c d) (8 * y + x) (pos 0) ≡ f x y
+gaps_at f a b c d ea eb ec ed zero zero h k = ea 0 h
+gaps_at f a b c d ea eb ec ed (suc zero) zero h k = ea 1 h
+gaps_at f a b c d ea eb ec ed (suc (suc zero)) zero h k = ea 2 h
+gaps_at f a b c d ea eb ec ed (suc (suc (suc zero))) zero h k = ea 3 h
+gaps_at f a b c d ea eb ec ed (suc (suc (suc (suc x)))) zero h k = absurd (omega arith)
+gaps_at f a b c d ea eb ec ed zero (suc zero) h k = eb 0 h
+gaps_at f a b c d ea eb ec ed (suc zero) (suc zero) h k = eb 1 h
+gaps_at f a b c d ea eb ec ed (suc (suc zero)) (suc zero) h k = eb 2 h
+gaps_at f a b c d ea eb ec ed (suc (suc (suc zero))) (suc zero) h k = eb 3 h
+gaps_at f a b c d ea eb ec ed (suc (suc (suc (suc x)))) (suc zero) h k = absurd (omega arith)
+gaps_at f a b c d ea eb ec ed zero (suc (suc zero)) h k = ec 0 h
+gaps_at f a b c d ea eb ec ed (suc zero) (suc (suc zero)) h k = ec 1 h
+gaps_at f a b c d ea eb ec ed (suc (suc zero)) (suc (suc zero)) h k = ec 2 h
+gaps_at f a b c d ea eb ec ed (suc (suc (suc zero))) (suc (suc zero)) h k = ec 3 h
+gaps_at f a b c d ea eb ec ed (suc (suc (suc (suc x)))) (suc (suc zero)) h k = absurd (omega arith)
+gaps_at f a b c d ea eb ec ed zero (suc (suc (suc zero))) h k = ed 0 h
+gaps_at f a b c d ea eb ec ed (suc zero) (suc (suc (suc zero))) h k = ed 1 h
+gaps_at f a b c d ea eb ec ed (suc (suc zero)) (suc (suc (suc zero))) h k = ed 2 h
+gaps_at f a b c d ea eb ec ed (suc (suc (suc zero))) (suc (suc (suc zero))) h k = ed 3 h
+gaps_at f a b c d ea eb ec ed (suc (suc (suc (suc x)))) (suc (suc (suc zero))) h k = absurd (omega arith)
+gaps_at f a b c d ea eb ec ed x (suc (suc (suc (suc y)))) h k = absurd (omega arith)

@@ -1,5 +1,5 @@
 -- What the flags of the levels before say of the next level of a sub-block (7.3.8.11).
-use Rattle.std.specs.Prelude.{ℕ, zero, suc, Bool, true, false, cond, nat_eq, ◌&&◌, List, [], ◌∷◌, ℤ}
+use Rattle.std.specs.Prelude.{ℕ, zero, suc, Bool, true, false, cond, nat_eq, ◌&&◌, List, [], ◌∷◌, ℤ, pos, slice_index_or}
 use Rattle.hv_residual_model.specs.UnitBins.{UnitQuestion, UnitBin, unit_bin}
 use Rattle.hv_residual_model.specs.ScanOrder.{Position, position_at}
 use Rattle.hv_residual_model.specs.ResidualContexts.{TransformBlock, sig_coeff_at}
@@ -38,3 +38,12 @@ one_sig_bins question n sure flag = cond (sure && nat_eq n 0) [] (unit_bin (ques
 -- the context of sig_coeff_flag at position i of sub-block S (9.3.4.2.5)
 abbrev pub sig_question : TransformBlock → Bool → Bool → Position → ℕ → UnitQuestion
 sig_question b right below S i = sig_coeff_at b right below S (position_at b.scanIdx 2 i)
+
+-- four rows of four, each eight entries behind the one before
+abbrev pub with_gaps : List ℤ → List ℤ → List ℤ → List ℤ → List ℤ
+with_gaps first second third fourth =
+    let at = λ (row : List ℤ) (x : ℕ). slice_index_or row x (pos 0) in
+    at first 0 ∷ at first 1 ∷ at first 2 ∷ at first 3 ∷ pos 0 ∷ pos 0 ∷ pos 0 ∷ pos 0 ∷
+    at second 0 ∷ at second 1 ∷ at second 2 ∷ at second 3 ∷ pos 0 ∷ pos 0 ∷ pos 0 ∷ pos 0 ∷
+    at third 0 ∷ at third 1 ∷ at third 2 ∷ at third 3 ∷ pos 0 ∷ pos 0 ∷ pos 0 ∷ pos 0 ∷
+    at fourth 0 ∷ at fourth 1 ∷ at fourth 2 ∷ at fourth 3 ∷ []

@@ -5,7 +5,7 @@ ghost use Rattle.std.specs.Prelude.{◌≡◌, ◌+◌, ◌-◌, ◌*◌, ◌^�
 ghost use Rattle.hv_residual_model.specs.ScanOrder.{position_at};
 ghost use Rattle.hv_residual_model.specs.ResidualBins.{levels_below, last_significant};
 ghost use Rattle.hv_residual.specs.Blocks.{block_of};
-ghost use Rattle.hv_residual.specs.Levels.{zeros_before};
+ghost use Rattle.hv_residual.specs.Levels.{zeros_before, with_gaps};
 
 use crate::binarization::power;
 use crate::block::{Block, Spot};
@@ -21,20 +21,72 @@ fn side(block: Block) -> usize
     power(block.log2) as usize
 }
 
-/// The level at the position of this number in a sub-block.
+/// Four levels of a row.
 #[inline(always)]
-fn level_in(levels: &[i16], block: Block, corner: Spot, i: u8) -> i16
+fn four_of(levels: &[i16], at: usize) -> [i16; 4]
+    requires { at + 4 ≤ length levels.now }
+    ensures { (x : ℕ) → x < 4 →
+        slice_index_or result x (pos 0) ≡ slice_index_or levels.now (at + x) (pos 0) }
+{
+    [levels[at], levels[at + 1], levels[at + 2], levels[at + 3]]
+}
+
+/// A row of a sub-block.
+#[inline(always)]
+fn row_of(levels: &[i16], block: Block, corner: Spot, y: u8) -> [i16; 4]
     requires whole { length levels.now ≡ 2 ^ block.log2 * 2 ^ block.log2 }
     requires column { corner.x < 2 ^ (block.log2 - 2) }
     requires row { corner.y < 2 ^ (block.log2 - 2) }
+    requires y { y < 4 }
+    ensures { (x : ℕ) → x < 4 → slice_index_or result x (pos 0) ≡ slice_index_or levels.now
+        ((4 * corner.y + y) * 2 ^ block.log2 + (4 * corner.x + x)) (pos 0) }
+{
+    let row = usize::from(4 * corner.y + y);
+    four_of(levels, row * side(block) + usize::from(4 * corner.x))
+}
+
+/// Four rows of four, each eight entries behind the one before.
+#[inline(always)]
+fn with_gaps(first: [i16; 4], second: [i16; 4], third: [i16; 4], fourth: [i16; 4]) -> [i16; 28]
+    ensures { result ≡ with_gaps first second third fourth }
+{
+    let [a, b, c, d] = first;
+    let [e, f, g, h] = second;
+    let [i, j, k, l] = third;
+    let [m, n, o, p] = fourth;
+    [
+        a, b, c, d, 0, 0, 0, 0, e, f, g, h, 0, 0, 0, 0, i, j, k, l, 0, 0, 0, 0, m, n, o, p,
+    ]
+}
+
+/// A sub-block by rows, each eight entries behind the one before: so the entry of a scan is the
+/// place of the level.
+#[inline(always)]
+fn by_rows(levels: &[i16], block: Block, corner: Spot) -> [i16; 28]
+    requires whole { length levels.now ≡ 2 ^ block.log2 * 2 ^ block.log2 }
+    requires column { corner.x < 2 ^ (block.log2 - 2) }
+    requires row { corner.y < 2 ^ (block.log2 - 2) }
+    ensures { (x y : ℕ) → x < 4 → y < 4 → slice_index_or result (8 * y + x) (pos 0) ≡
+        slice_index_or levels.now
+        ((4 * corner.y + y) * 2 ^ block.log2 + (4 * corner.x + x)) (pos 0) }
+{
+    with_gaps(
+        row_of(levels, block, corner, 0),
+        row_of(levels, block, corner, 1),
+        row_of(levels, block, corner, 2),
+        row_of(levels, block, corner, 3),
+    )
+}
+
+/// The level at the position of this number in a sub-block by rows.
+#[inline(always)]
+fn level_in(rows: &[i16; 28], block: Block, i: u8) -> i16
     requires number { i < 16 }
-    ensures { let P = position_at block.scan 2 i in result ≡ slice_index_or levels.now
-        ((4 * corner.y + P.y) * 2 ^ block.log2 + (4 * corner.x + P.x)) (pos 0) }
+    ensures { let P = position_at block.scan 2 i in
+        result ≡ slice_index_or rows.now (8 * P.y + P.x) (pos 0) }
 {
     let place = place_in(block.scan, 2, i);
-    let row = usize::from(4 * corner.y + place.y);
-    let column = usize::from(4 * corner.x + place.x);
-    levels[row * side(block) + column]
+    rows[usize::from(8 * place.y + place.x)]
 }
 
 /// Whether four levels of a row are 0.
@@ -88,9 +140,10 @@ pub fn gather(levels: &[i16], block: Block, s: u8) -> [i16; 16]
     if is_clear(levels, block, corner) {
         return [0; 16];
     }
+    let rows = by_rows(levels, block, corner);
     let mut all = [0i16; 16];
     for k in 0..16u8 {
-        all[usize::from(k)] = level_in(levels, block, corner, 15 - k);
+        all[usize::from(k)] = level_in(&rows, block, 15 - k);
     }
     all
 }

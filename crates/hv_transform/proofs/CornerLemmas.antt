@@ -1,6 +1,6 @@
 -- Blocks that are 0 outside their first eight columns and rows.
 use Rattle.std.proofs.Common.{◌≡◌, ℕ, ◌+◌, ◌-◌, ◌*◌, ◌^◌, ◌<◌, ◌≤◌, List, ℤ, pos, ◌+ℤ◌, ◌*ℤ◌, refl, arith, ap, ap₂, ◌∙◌, sym, subst, zero, suc, Bool, true, nat_le, length, replicate, drop}
-use Rattle.std.proofs.lemmas.Int.{ints, unsigned_abs-mul}
+use Rattle.std.proofs.lemmas.Int.{ints}
 use Rattle.std.proofs.lemmas.Bool.{cases_lt, leb-true}
 use Rattle.std.proofs.lemmas.List.{get_or-append_right, get_or-drop}
 use Rattle.std.proofs.Math.Nat.{mul-le-mul_right}

@@ -2,7 +2,7 @@
 use Rattle.std.proofs.Common.{◌≡◌, ℕ, ◌+◌, ◌-◌, ◌*◌, ◌^◌, ◌<◌, ◌≤◌, List, ℤ, pos, ◌+ℤ◌, ◌*ℤ◌, refl, arith, ap, ap₂, ◌∙◌, sym, subst, zero, suc, [], ◌∷◌, ◌++◌, true, nat_eq, map}
 use Rattle.std.specs.Prelude.{◌-ℤ◌, neg_ℤ, not}
 use Rattle.std.specs.Int.{int_wrap}
-use Rattle.std.proofs.lemmas.Int.{ints, unsigned_abs-mul, SFits-int_wrap, int_wrap-add_left, int_wrap-add_right, int_wrap-sub_right}
+use Rattle.std.proofs.lemmas.Int.{ints, unsigned_abs-mul, SFits-int_wrap, int_wrap-add_left, int_wrap-sub_right}
 use Rattle.std.proofs.lemmas.List.{get_or_past}
 use Rattle.std.proofs.lemmas.Bool.{cases_lt}
 use mathlib.Core.Logic.{⊎_elim}

@@ -5,7 +5,6 @@ use Rattle.std.proofs.lemmas.Int.{ints, unsigned_abs-mul}
 use Rattle.std.proofs.Math.IntN.{*ℤ_comm, *ℤ-negsuc, neg_ℤ-neg_ℤ}
 use Rattle.std.specs.Prelude.{◌-ℤ◌, neg_ℤ}
 use Rattle.std.specs.Ordering.{int_eq}
-use Rattle.std.proofs.lemmas.Bool.Decides.{Decides-int_eq}
 use Rattle.std.proofs.lemmas.Nat.{pow-add}
 use Rattle.hv_tables.proofs.ComputedLemmas.{equal_numbers}
 use Rattle.hv_tables.specs.TransformMatrix.{transMatrix}
@@ -18,7 +17,7 @@ use Rattle.hv_transform.proofs.SumLemmas.{sum_of_same}
 by_zero : (b : ℤ) → b *ℤ pos zero ≡ pos zero
 by_zero b = omega (arith, ints, unsigned_abs-mul b (pos zero))
 
-neg_times : (a b : ℤ) → neg_ℤ a *ℤ b ≡ neg_ℤ (b *ℤ a)
+pub neg_times : (a b : ℤ) → neg_ℤ a *ℤ b ≡ neg_ℤ (b *ℤ a)
 neg_times (pos zero) b = *ℤ_comm (pos zero) b ∙ by_zero b ∙ sym (ap neg_ℤ (by_zero b))
 neg_times (pos (suc n)) b = *ℤ_comm (negsuc n) b ∙ *ℤ-negsuc b n
 neg_times (negsuc n) b = *ℤ_comm (pos (suc n)) b ∙ sym (neg_ℤ-neg_ℤ (b *ℤ pos (suc n))) ∙ ap neg_ℤ (sym (*ℤ-negsuc b n))
@@ -36,10 +35,10 @@ unfolding sum_of
 negated zero f = refl
 negated (suc n) f = omega (arith, ints, negated n f)
 
-record Halved (m : ℕ) (whole half : ℕ → ℕ → ℤ) : Type 0 where
-  even : (k n : ℕ) → k < m → n < m → whole (2 * k) n ≡ half k n
-  even_mirrored : (k n : ℕ) → k < m → n < m → whole (2 * k) (2 * m - 1 - n) ≡ half k n
-  odd_mirrored : (k n : ℕ) → k < m → n < m → whole (2 * k + 1) (2 * m - 1 - n) ≡ neg_ℤ (whole (2 * k + 1) n)
+pub record Halved (m : ℕ) (whole half : ℕ → ℕ → ℤ) : Type 0 where
+  pub even : (k n : ℕ) → k < m → n < m → whole (2 * k) n ≡ half k n
+  pub even_mirrored : (k n : ℕ) → k < m → n < m → whole (2 * k) (2 * m - 1 - n) ≡ half k n
+  pub odd_mirrored : (k n : ℕ) → k < m → n < m → whole (2 * k + 1) (2 * m - 1 - n) ≡ neg_ℤ (whole (2 * k + 1) n)
 
 low_side : (m n : ℕ) (whole half : ℕ → ℕ → ℤ) (a : ℕ → ℤ) → Halved m whole half → n < m
     → sum_of (2 * m) (λ k. whole k n *ℤ a k) ≡ sum_of m (λ k. half k n *ℤ a (2 * k)) +ℤ sum_of m (λ k. whole (2 * k + 1) n *ℤ a (2 * k + 1))
@@ -59,14 +58,14 @@ high_side m n whole half a h p =
     (λ k q. ap (λ t. t *ℤ a (2 * k + 1)) (h.odd_mirrored k n q p) ∙ neg_times (whole (2 * k + 1) n) (a (2 * k + 1)) ∙ ap neg_ℤ (*ℤ_comm (a (2 * k + 1)) (whole (2 * k + 1) n))) ∙ negated m o)
 
 -- the matrix has this law, computed over all of it
-abbrev law_at : ℕ → ℕ → ℕ → Bool
+abbrev pub law_at : ℕ → ℕ → ℕ → Bool
 law_at log2 n k =
     let m : ℕ = 2 ^ log2 in
     int_eq (transMatrix (log2 + 1) (2 * k) n) (transMatrix log2 k n) &&
     (int_eq (transMatrix (log2 + 1) (2 * k) (2 * m - 1 - n)) (transMatrix log2 k n) &&
     int_eq (transMatrix (log2 + 1) (2 * k + 1) (2 * m - 1 - n)) (neg_ℤ (transMatrix (log2 + 1) (2 * k + 1) n)))
 
-abbrev law : ℕ → Bool
+abbrev pub law : ℕ → Bool
 law log2 = all_below (2 ^ log2) (λ n. all_below (2 ^ log2) (law_at log2 n))
 
 law_8 : law 2 ≡ true
@@ -78,7 +77,7 @@ law_16 = refl
 law_32 : law 4 ≡ true
 law_32 = refl
 
-laws : (log2 : ℕ) → 2 ≤ log2 → log2 ≤ 4 → law log2 ≡ true
+pub laws : (log2 : ℕ) → 2 ≤ log2 → log2 ≤ 4 → law log2 ≡ true
 laws zero least greatest = absurd (omega arith)
 laws (suc zero) least greatest = absurd (omega arith)
 laws (suc (suc zero)) least greatest = law_8
@@ -86,7 +85,7 @@ laws (suc (suc (suc zero))) least greatest = law_16
 laws (suc (suc (suc (suc zero)))) least greatest = law_32
 laws (suc (suc (suc (suc (suc m))))) least greatest = absurd (omega arith)
 
-halved : (log2 : ℕ) → law log2 ≡ true → Halved (2 ^ log2) (transMatrix (log2 + 1)) (transMatrix log2)
+pub halved : (log2 : ℕ) → law log2 ≡ true → Halved (2 ^ log2) (transMatrix (log2 + 1)) (transMatrix log2)
 halved log2 h =
     let m : ℕ = 2 ^ log2 in
     let at : (k n : ℕ) → k < m → n < m → law_at log2 n k ≡ true = λ k n q p. holds_below m (law_at log2 n) (holds_below m (λ n. all_below m (law_at log2 n)) h n p) k q in
@@ -122,7 +121,7 @@ even_half d n c =
     sum_of_same (2 ^ (d + 2)) (λ k. transMatrix (d + 2) k n *ℤ in_order (suc d) c (2 * k)) (λ k. transMatrix (d + 2) k n *ℤ in_order d (others d c) k)
     (λ k p. ap (λ v. transMatrix (d + 2) k n *ℤ v) (in_order_even d k c))
 
-twice : (l : ℕ) → 2 ^ (l + 1) ≡ 2 * 2 ^ l
+pub twice : (l : ℕ) → 2 ^ (l + 1) ≡ 2 * 2 ^ l
 twice l = pow-add 2 l 1 ∙ omega arith
 
 pub low_half : (d n : ℕ) (c : ℕ → ℤ) → d ≤ 2 → n < 2 ^ (d + 2)

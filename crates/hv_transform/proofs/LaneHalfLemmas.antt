@@ -7,7 +7,7 @@ use Rattle.hv_transform.specs.Lanes.{FourLanes, in_pairs, lane_sum, weight, colu
 use Rattle.hv_transform.proofs.SumLemmas.{sum_of_same}
 use Rattle.hv_transform.proofs.FourLaneLemmas.{same_lanes, Odd}
 
-append_sum : (n m : ℕ) (h : ℕ → ℤ) → sum_of (n + m) h ≡ sum_of n h +ℤ sum_of m (λ r. h (n + r))
+pub append_sum : (n m : ℕ) (h : ℕ → ℤ) → sum_of (n + m) h ≡ sum_of n h +ℤ sum_of m (λ r. h (n + r))
 unfolding sum_of
 append_sum n zero h =
     let none : n + zero ≡ n = omega arith in
@@ -17,17 +17,17 @@ append_sum n (suc m) h =
     ap (λ k. sum_of k h) more ∙ omega (arith, ints, append_sum n m h)
 
 -- four products of a sum
-abbrev chunk : (ℕ → ℤ) → ℕ → ℤ
+abbrev pub chunk : (ℕ → ℤ) → ℕ → ℤ
 chunk h q = sum_of 4 (λ r. h (4 * q + r))
 
-eight_sum : (h : ℕ → ℤ) → sum_of 8 h ≡ chunk h 0 +ℤ chunk h 1
+pub eight_sum : (h : ℕ → ℤ) → sum_of 8 h ≡ chunk h 0 +ℤ chunk h 1
 eight_sum h =
     append_sum 4 4 h ∙
     ap₂ (λ a b. a +ℤ b)
     (sum_of_same 4 h (λ r. h (4 * 0 + r)) (λ r below. ap h (omega arith)))
     (sum_of_same 4 (λ r. h (4 + r)) (λ r. h (4 * 1 + r)) (λ r below. ap h (omega arith)))
 
-sixteen_sum : (h : ℕ → ℤ) → sum_of 16 h ≡ (chunk h 0 +ℤ chunk h 1) +ℤ (chunk h 2 +ℤ chunk h 3)
+pub sixteen_sum : (h : ℕ → ℤ) → sum_of 16 h ≡ (chunk h 0 +ℤ chunk h 1) +ℤ (chunk h 2 +ℤ chunk h 3)
 sixteen_sum h =
     append_sum 8 8 h ∙
     ap₂ (λ a b. a +ℤ b) (eight_sum h)

@@ -47,7 +47,7 @@ lane_is a b c d e f g h fa fb fc fd fe ff fg fh =
     (sum_is _ _ (a *ℤ e) (b *ℤ f) (omega arith) (omega arith) (product_is a e fa fe) (product_is b f fb ff))
     (sum_is _ _ (c *ℤ g) (d *ℤ h) (omega arith) (omega arith) (product_is c g fc fg) (product_is d h fd fh))
 
-numbers : (n k : ℕ) (xs : List ℤ) (ys : List ℕ) → length xs ≡ n → k < n → get_or (map (of_z w16) (take n xs) ++ ys) k 0 ≡ of_z w16 (at xs k)
+pub numbers : (n k : ℕ) (xs : List ℤ) (ys : List ℕ) → length xs ≡ n → k < n → get_or (map (of_z w16) (take n xs) ++ ys) k 0 ≡ of_z w16 (at xs k)
 numbers zero k xs ys l q = absurd (omega (arith, q))
 numbers (suc n) k [] ys l q = absurd (omega arith)
 numbers (suc n) zero (x ∷ xs) ys l q = refl
@@ -59,7 +59,7 @@ others k (x ∷ []) ys l = absurd (omega arith)
 others k (x ∷ y ∷ []) ys l = refl
 others k (x ∷ y ∷ z ∷ xs) ys l = absurd (omega arith)
 
-end : (n k : ℕ) (xs : List ℤ) → length xs ≡ n → k < n → get_or (map (of_z w16) (take n xs)) k 0 ≡ of_z w16 (at xs k)
+pub end : (n k : ℕ) (xs : List ℤ) → length xs ≡ n → k < n → get_or (map (of_z w16) (take n xs)) k 0 ≡ of_z w16 (at xs k)
 end zero k xs l q = absurd (omega (arith, q))
 end (suc n) k [] l q = absurd (omega arith)
 end (suc n) zero (x ∷ xs) l q = refl

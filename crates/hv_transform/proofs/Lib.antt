@@ -20,3 +20,10 @@ pub mod OrderLemmas
 pub mod MeanLemmas
 pub mod InverseLaneLemmas
 pub mod CornerLemmas
+pub mod LevelLemmas
+pub mod FoldLemmas
+pub mod RowLaneLemmas
+pub mod RowSumLemmas
+pub mod ColumnLaneLemmas
+pub mod ForwardLaneLemmas
+pub mod ScaleLemmas

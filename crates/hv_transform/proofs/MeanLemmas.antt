@@ -24,7 +24,7 @@ use Rattle.hv_transform.proofs.OrderLemmas.{in_order_all}
 use Rattle.hv_transform.proofs.PartLemmas.{HasFirst-put}
 use Rattle.hv_transform.proofs.WeightLemmas.{light}
 
-size_of_products : (n most : ℕ) (t c : ℕ → ℤ) → ((k : ℕ) → k < n → unsigned_abs (c k) ≤ most) → unsigned_abs (sum_of n (λ k. t k *ℤ c k)) ≤ total_of n (λ k. unsigned_abs (t k)) * most
+pub size_of_products : (n most : ℕ) (t c : ℕ → ℤ) → ((k : ℕ) → k < n → unsigned_abs (c k) ≤ most) → unsigned_abs (sum_of n (λ k. t k *ℤ c k)) ≤ total_of n (λ k. unsigned_abs (t k)) * most
 unfolding sum_of total_of
 size_of_products zero most t c h = omega (arith, ints)
 size_of_products (suc n) most t c h =

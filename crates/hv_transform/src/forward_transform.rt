@@ -1,4 +1,6 @@
 //! The forward transform of the encoder: the rows first, and then the columns.
+//!
+//! Blocks of 4 columns go by dot products of rows, the others in lanes.
 ghost use Rattle.std.specs.Prelude.{◌≡◌, ◌+◌, ◌*◌, ◌^◌, ◌<◌, ◌≤◌, length};
 ghost use Rattle.hv_tables.specs.Tables.{HasEntries};
 ghost use Rattle.hv_tables.specs.TransformMatrix.{transMatrix};
@@ -7,8 +9,9 @@ ghost use Rattle.hv_transform.specs.Passes.{HasFirst, AreWithin, WeighAtMost, ta
 ghost use Rattle.hv_transform.specs.Ranges.{Have16Bits, AreDifferences};
 
 use crate::dot::{mean, narrow_mean};
+use crate::forward_lanes::{forward_8, forward_16, forward_32};
 use crate::rows::row;
-use hv_tables::{matrix_rows_4, matrix_rows_8, matrix_rows_16, matrix_rows_32};
+use hv_tables::matrix_rows_4;
 
 /// The first pass: sums over the rows. Row u of `out` has frequency u of each row.
 #[inline(always)]
@@ -64,8 +67,6 @@ fn transform_columns<const N: usize>(
 }
 
 /// The coefficients of a block of N columns, which has `AREA` members.
-///
-/// The scratch stands here and not in the function below, which would clear that of every size.
 #[inline(always)]
 fn forward_of<const N: usize, const AREA: usize>(
     rows: &[[i8; N]; N],
@@ -104,8 +105,8 @@ pub fn forward(residual: &[i16], log2: u8, out: &mut [i32])
 {
     match log2 {
         2 => forward_of::<4, 16>(matrix_rows_4(), residual, log2, out),
-        3 => forward_of::<8, 64>(matrix_rows_8(), residual, log2, out),
-        4 => forward_of::<16, 256>(matrix_rows_16(), residual, log2, out),
-        _ => forward_of::<32, 1024>(matrix_rows_32(), residual, log2, out),
+        3 => forward_8(residual, out),
+        4 => forward_16(residual, out),
+        _ => forward_32(residual, out),
     }
 }

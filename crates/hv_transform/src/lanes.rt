@@ -103,7 +103,7 @@ fn means(lanes: i32x8, shift: u32) -> i32x8
 
 /// The nearest numbers of 16 bits.
 #[inline(always)]
-fn clipped(lanes: i32x8) -> i16x8
+pub(crate) fn clipped(lanes: i32x8) -> i16x8
     requires eight { length lanes ≡ 8 }
     requires numbers { Numbers32 lanes }
     ensures { result ≡ map clip16 lanes }

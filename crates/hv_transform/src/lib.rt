@@ -7,13 +7,19 @@
 
 mod column_sums;
 mod dot;
+mod forward_columns;
+mod forward_lanes;
 mod forward_transform;
+mod forward_weights;
 mod inverse_lanes;
 mod inverse_passes;
 mod inverse_transform;
 mod lane_weights;
 mod lanes;
 mod laws;
+mod level_lanes;
+mod row_lanes;
+mod row_sums;
 mod rows;
 mod scaling;
 #[cfg(test)]

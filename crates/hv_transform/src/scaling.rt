@@ -8,24 +8,25 @@ ghost use Rattle.hv_sample_model.specs.Quantisation.{quantised, rounded, with_si
 ghost use Rattle.hv_tables.specs.Quantisers.{levelScale};
 ghost use Rattle.hv_transform.specs.Ranges.{Have16Bits, is_other_than_0};
 
+use crate::level_lanes::{have_other_than_0, quantise_eight};
 use hv_tables::{level_scale, quantisation_factor};
 
 /// A level by its factor.
 #[inline(always)]
-fn product(level: i16, factor: u32) -> i64
-    requires { factor ≤ 294912 }
+fn product(level: i16, factor: u32) -> i32
+    requires { factor ≤ 18432 }
     ensures value { result ≡ level *ℤ pos factor }
-    ensures most { unsigned_abs result ≤ 32768 * 294912 }
+    ensures most { unsigned_abs result ≤ 32768 * 18432 }
 {
-    i64::from(level) * i64::from(factor)
+    i32::from(level) * factor as i32
 }
 
 /// A product by 2^shift, rounded to the nearest, a half upwards.
 #[inline(always)]
-fn rounded(product: i64, shift: u32) -> i64
-    requires range { unsigned_abs product ≤ 32768 * 294912 }
+fn rounded(product: i32, shift: u32) -> i32
+    requires range { unsigned_abs product ≤ 32768 * 18432 }
     requires some { 0 < shift }
-    requires most { shift ≤ 8 }
+    requires most { shift ≤ 4 }
     ensures { result ≡ rounded product shift }
 {
     (product + (1 << (shift - 1))) >> shift
@@ -33,31 +34,31 @@ fn rounded(product: i64, shift: u32) -> i64
 
 /// The nearest number of 16 bits.
 #[inline(always)]
-fn clipped(value: i64) -> i32
+fn clipped(value: i32) -> i32
     ensures { result ≡ clip16 value }
 {
-    value.clamp(-32768, 32767) as i32
+    value.clamp(-32768, 32767)
 }
 
-/// A scaled transform coefficient, by its whole factor and the shift.
+/// A scaled transform coefficient, by its factor and the shift.
 #[inline(always)]
 fn scaled_by(level: i16, factor: u32, shift: u32) -> i32
-    requires factor_most { factor ≤ 294912 }
+    requires factor_most { factor ≤ 18432 }
     requires some { 0 < shift }
-    requires shift_most { shift ≤ 8 }
+    requires shift_most { shift ≤ 4 }
     ensures { result ≡ clip16 (rounded (level *ℤ pos factor) shift) }
 {
     clipped(rounded(product(level, factor), shift))
 }
 
-/// The factor of a quantiser: the scaling factor m is 16 everywhere (8.6.3).
+/// The factor of a quantiser, but for the scaling factor m, which is 16 everywhere (8.6.3).
 #[inline(always)]
-fn whole_factor(qp: u8) -> u32
+fn factor_of(qp: u8) -> u32
     requires { qp ≤ 51 }
-    ensures value { result ≡ 16 * levelScale qp * 2 ^ (qp / 6) }
-    ensures most { result ≤ 294912 }
+    ensures value { result ≡ levelScale qp * 2 ^ (qp / 6) }
+    ensures most { result ≤ 18432 }
 {
-    (16 * u32::from(level_scale(qp))) << (qp / 6)
+    u32::from(level_scale(qp)) << (qp / 6)
 }
 
 /// Scales the levels of a block to transform coefficients (8.6.3).
@@ -72,8 +73,9 @@ pub fn scale(levels: &[i16], log2: u8, qp: u8, out: &mut [i32])
     ensures value { out.new ≡ map (scaled log2 qp) levels.now }
     ensures range { Have16Bits out.new }
 {
-    let shift = u32::from(log2) + 3;
-    let factor = whole_factor(qp);
+    // The factor 16 is left out, and so four bits less are shifted away: all fits 32 bits.
+    let shift = u32::from(log2) - 1;
+    let factor = factor_of(qp);
     for i in 0..out.len() {
         out[i] = scaled_by(levels[i], factor, shift);
     }
@@ -124,17 +126,9 @@ fn offset_of(intra: bool, shift: u32) -> u32
     requires least { 16 ≤ shift }
     requires greatest { shift ≤ 27 }
     ensures value { result ≡ offset_of_kind intra * 2 ^ (shift - 9) }
-    ensures part { result ≤ 2 ^ shift }
+    ensures part { 2 * result < 2 ^ shift }
 {
     offset_of_kind(intra) << (shift - 9)
-}
-
-/// Whether a level isn't 0.
-#[inline(always)]
-fn is_other_than_0(level: i16) -> bool
-    ensures { result ≡ is_other_than_0 level }
-{
-    level != 0
 }
 
 /// The levels of a block of transform coefficients, as the encoder chooses them.
@@ -154,11 +148,18 @@ pub fn quantise(coefficients: &[i32], log2: u8, qp: u8, intra: bool, out: &mut [
     let shift = u32::from(21 + qp / 6 - log2);
     let factor = u32::from(quantisation_factor(qp));
     let offset = offset_of(intra, shift);
-    let mut is_some = false;
-    for i in 0..out.len() {
-        let level = quantised_by(coefficients[i], factor, offset, shift);
-        out[i] = level;
-        is_some = is_some | is_other_than_0(level);
+    let eights = out.len() / 8;
+    for g in 0..eights {
+        quantise_eight(
+            &coefficients[8 * g..8 * g + 8],
+            factor,
+            offset,
+            shift,
+            &mut out[8 * g..8 * g + 8],
+        );
     }
-    is_some
+    for i in 8 * eights..out.len() {
+        out[i] = quantised_by(coefficients[i], factor, offset, shift);
+    }
+    have_other_than_0(out)
 }

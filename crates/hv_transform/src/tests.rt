@@ -159,4 +159,9 @@ fn levels_of_0(rt: HostRuntime) {
     assert_eq!(rt; levels.as_slice(), [0; 4].as_slice());
     assert!(rt; quantise(&[0, 341, -340, 0], 3, 32, false, &mut levels));
     assert_eq!(rt; levels.as_slice(), [0, 1, 0, 0].as_slice());
+    let mut eight = [7i16; 8];
+    assert!(rt; !quantise(&[340, -340, 0, 0, 0, 0, 0, 0], 3, 32, false, &mut eight));
+    assert_eq!(rt; eight.as_slice(), [0; 8].as_slice());
+    assert!(rt; quantise(&[0, 0, 0, 0, 0, 0, 0, -341], 3, 32, false, &mut eight));
+    assert_eq!(rt; eight.as_slice(), [0, 0, 0, 0, 0, 0, 0, -1].as_slice());
 }

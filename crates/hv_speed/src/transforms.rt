@@ -1,8 +1,10 @@
 //! The kernels of transforms that can be run, and the blocks that they go over.
 ghost use Rattle.std.specs.Prelude.{◌≡◌, ◌^◌, ◌<◌, ◌≤◌, IfOk, vec_len, length};
-ghost use Rattle.hv_transform.specs.Ranges.{Have16Bits, AreDifferences};
+ghost use Rattle.hv_forward.specs.Ranges.{AreDifferences};
+ghost use Rattle.hv_lanes.specs.Ranges.{Have16Bits};
 
-use hv_transform::{forward, inverse, quantise, scale};
+use hv_forward::{forward, quantise};
+use hv_transform::{inverse, scale};
 use std::alloc::{AllocError, Global};
 
 /// A block of residuals, one of coefficients, and room for what a transform makes of them.

@@ -1,23 +1,57 @@
 -- Blocks that are 0 outside their first eight columns and rows.
-use Rattle.std.proofs.Common.{◌≡◌, ℕ, ◌+◌, ◌-◌, ◌*◌, ◌^◌, ◌<◌, ◌≤◌, List, ℤ, pos, ◌+ℤ◌, ◌*ℤ◌, refl, arith, ap, ap₂, ◌∙◌, sym, subst, zero, suc, Bool, true, nat_le, length, replicate, drop}
-use Rattle.std.proofs.lemmas.Int.{ints}
-use Rattle.std.proofs.lemmas.Bool.{cases_lt, leb-true}
-use Rattle.std.proofs.lemmas.List.{get_or-append_right, get_or-drop}
-use Rattle.std.proofs.Math.Nat.{mul-le-mul_right}
-use mathlib.Core.Logic.{⊎_elim}
-use borrow.Rule.Slice.PartMut.{put_mid}
-use lib.ListN.{get_or}
-use mir.Syntax.{w16}
-use mir.Val.{SFits}
-use Rattle.hv_transform.proofs.FourLaneLemmas.{zero_times}
-use Rattle.hv_tables.specs.TransformMatrix.{transMatrix}
-use Rattle.hv_sample_model.specs.Blocks.{sum_of, at_place}
+use Rattle.std.proofs.Common.{Bool, List, [], ap, ap₂, arith, drop, length, map, nat_le, negsuc, pos, refl, replicate, subst, suc, sym, take, true, zero, ℕ, ℤ, ◌*ℤ◌, ◌*◌, ◌+ℤ◌, ◌+◌, ◌-◌, ◌<◌, ◌^◌, ◌∙◌, ◌∷◌, ◌≡◌, ◌≤◌}
+use Rattle.std.proofs.lemmas.Int.{clamps, ints}
+use Rattle.hv_lanes.proofs.ZeroLemmas.{part_of_0}
+use Rattle.hv_lanes.specs.Ranges.{is_other_than_0}
+use Rattle.std.specs.List.{list_any}
+use Rattle.std.proofs.Common.{false}
+use Rattle.std.proofs.lemmas.List.{get_or_past}
+use mir.Syntax.{w16, w32}
+use mir.Val.{SFits, of_z}
 use Rattle.hv_lemmas.specs.Clipping.{clip16}
+use Rattle.hv_lanes.specs.Ranges.{Have16Bits}
+use Rattle.hv_lanes.proofs.PartLemmas.{numbers_of_bits, zero_fits}
+use Rattle.std.proofs.lemmas.Simd.{put_chunk_whole}
+use lib.Lanes.{put_chunk}
+use lib.Seq.{take_all}
+use Rattle.hv_lanes.specs.Lanes.{AreZero, HasPairs, IsShort, Numbers, at, place}
+use Rattle.hv_lanes.proofs.LaneStepLemmas.{clamped, clamps_are, narrowed}
+use Rattle.hv_lemmas.proofs.ComputedLemmas.{all_below, holds_below}
+use Rattle.std.proofs.lemmas.Bool.{cases_lt, leb-true}
+use Rattle.std.proofs.Math.Nat.{mul-le-mul_right}
+use Rattle.hv_transform.specs.Columns.{AreFew}
+use Rattle.hv_sample_model.specs.Blocks.{at_place, sum_of}
+use Rattle.hv_transform.proofs.ColumnLaneLemmas.{zero_times}
+use Rattle.hv_tables.specs.TransformMatrix.{transMatrix}
 use Rattle.hv_sample_model.specs.Quantisation.{rounded}
 use Rattle.hv_sample_model.specs.InverseTransform.{column_sample}
-use Rattle.hv_transform.specs.Passes.{HasFirst}
-use Rattle.hv_transform.specs.Lanes.{at, Numbers, place, AreFew, AreZero, HasPairs, IsShort}
-use Rattle.hv_lemmas.proofs.ComputedLemmas.{holds_below, all_below}
+use mathlib.Core.Logic.{⊎_elim}
+use Rattle.std.proofs.lemmas.List.{get_or-append_right, get_or-drop}
+use borrow.Rule.Slice.PartMut.{put_mid}
+use lib.ListN.{get_or}
+use Rattle.hv_lanes.specs.Passes.{HasFirst}
+
+-- numbers of 16 bits are their own nearest
+nearest : (z : ℤ) → SFits w16 z → clip16 z ≡ z
+nearest (pos n) f = omega (arith, ints, clamps, f)
+nearest (negsuc n) f = omega (arith, ints, clamps, f)
+
+map_nearest : (xs : List ℤ) → Have16Bits xs → map clip16 xs ≡ xs
+map_nearest [] h = refl
+map_nearest (x ∷ xs) h = ap₂ (λ a b. a ∷ b) (nearest x (h 0 x (omega arith))) (map_nearest xs (λ k d below. h (suc k) d (omega (arith, below))))
+
+pub narrowed_is : (out numbers : List ℤ) → length numbers ≡ 8 → length out ≡ 8 → Have16Bits numbers → put_chunk 0 out (narrowed (clamped (map (of_z w32) (take 8 numbers)) (replicate 8 4294934528) (replicate 8 32767))) ≡ numbers
+narrowed_is out numbers l m h =
+    let all : take 8 numbers ≡ numbers = take_all 8 numbers (omega (arith, l)) in
+    let is : narrowed (clamped (map (of_z w32) (take 8 numbers)) (replicate 8 4294934528) (replicate 8 32767)) ≡ numbers =
+    ap (λ v. narrowed (clamped (map (of_z w32) v) (replicate 8 4294934528) (replicate 8 32767))) all ∙ clamps_are 8 numbers l (wide numbers h) ∙ map_nearest numbers h in
+    ap (put_chunk 0 out) is ∙ put_chunk_whole out numbers (m ∙ sym l)
+  where
+    wider : (z : ℤ) → SFits w16 z → SFits w32 z
+    wider z f = record { sfits = omega (arith, f) }
+
+    wide : (xs : List ℤ) → Have16Bits xs → (k : ℕ) → SFits w32 (at xs k)
+    wide xs h k = wider (at xs k) (numbers_of_bits xs h k)
 
 pub zeros : (n k : ℕ) → at (replicate n (pos 0)) k ≡ pos 0
 zeros zero k = refl
@@ -80,12 +114,17 @@ behind a j xs ys inside long past =
     let here : a + (j - a) ≡ j = omega (arith, past) in
     get_or-append_right ys (drop a xs) a j (pos 0) long past ∙ get_or-drop a xs (j - a) (pos 0) ∙ ap (at xs) here
 
-zero_fits : SFits w16 (pos 0)
-zero_fits = record { sfits = omega (arith, ints) }
-
 pub numbers_of_short : (n : ℕ) (f : ℕ → ℤ) (xs : List ℤ) → HasFirst n f xs → ((k : ℕ) → n ≤ k → at xs k ≡ pos 0) → ((k : ℕ) → SFits w16 (f k)) → Numbers xs
 numbers_of_short n f xs each rest fits k =
     ⊎_elim
     (λ (below : k < n). subst (SFits w16) (sym (each k below)) (fits k))
     (λ (past : n ≤ k). subst (SFits w16) (sym (rest k past)) zero_fits)
     (cases_lt k n)
+
+-- where the rows behind the first eight have nothing but 0
+pub short_of : (n : ℕ) (xs : List ℤ) → 8 * n ≤ n * n → length xs ≡ n * n → list_any is_other_than_0 (take (n * n - 8 * n) (drop (8 * n) xs)) ≡ false → IsShort n xs
+short_of n xs inside whole h k behind =
+    ⊎_elim
+    (λ (below : k < n * n). part_of_0 (8 * n) (n * n - 8 * n) xs h k behind (omega (arith, below, inside)))
+    (λ (past : n * n ≤ k). get_or_past xs k (pos 0) (omega (arith, past, whole)))
+    (cases_lt k (n * n))

@@ -1,44 +1,27 @@
 -- Two passes in lanes give the residual of the definition.
-use Rattle.std.proofs.Common.{◌≡◌, ℕ, ◌+◌, ◌*◌, ◌/◌, ◌%◌, ◌^◌, ◌<◌, ◌≤◌, List, ℤ, pos, negsuc, ◌*ℤ◌, refl, arith, ap, ap₂, ◌∙◌, sym, subst, length}
-use Rattle.std.specs.Int.RustNames.{unsigned_abs}
-use Rattle.std.proofs.lemmas.Int.{ints, clamps}
-use Rattle.std.proofs.lemmas.Bool.{cases_lt}
-use Rattle.std.proofs.lemmas.List.{get_or_past}
-use Rattle.std.proofs.lemmas.Nat.{pow_pos}
-use mathlib.Core.Logic.{⊎_elim}
+use Rattle.hv_lanes.proofs.PartLemmas.{clip_fits}
+use Rattle.std.proofs.Common.{List, ap, ap₂, arith, length, negsuc, pos, subst, sym, ℕ, ℤ, ◌%◌, ◌*ℤ◌, ◌*◌, ◌+◌, ◌/◌, ◌<◌, ◌^◌, ◌∙◌, ◌≡◌, ◌≤◌}
 use mir.Syntax.{w16}
 use mir.Val.{SFits}
-use Rattle.hv_tables.specs.TransformMatrix.{transMatrix}
-use Rattle.hv_sample_model.specs.Blocks.{at_place}
-use Rattle.hv_lemmas.specs.Clipping.{clip16}
 use Rattle.hv_sample_model.specs.Quantisation.{rounded}
+use Rattle.hv_transform.specs.Columns.{HaveBits, column_mean, column_sum, in_order, numbers_from, pass_mean}
+use Rattle.hv_lanes.specs.Lanes.{HasPairs, Numbers, at, in_pairs, place}
+use Rattle.hv_sample_model.specs.Blocks.{at_place}
 use Rattle.hv_sample_model.specs.InverseTransform.{column_sample, inverse_sample, inverse_transformed}
-use Rattle.hv_transform.specs.Passes.{HasFirst}
-use Rattle.hv_transform.specs.Lanes.{at, Numbers, HaveBits, HasPairs, in_pairs, in_order, numbers_from, column_sum, column_mean, pass_mean, place}
-use Rattle.hv_transform.proofs.SumLemmas.{sum_of_same}
-use Rattle.hv_transform.proofs.NumberLemmas.{size_of_rounded, size_of_clipped}
-use Rattle.hv_transform.proofs.MeanLemmas.{column_small}
+use Rattle.hv_lanes.specs.Passes.{HasFirst}
 use Rattle.hv_transform.proofs.OrderLemmas.{in_order_is}
-use Rattle.hv_transform.proofs.PlaceLemmas.{place_inside, row_of_place, column_of_place}
-use Rattle.hv_transform.proofs.SquareLemmas.{square_is, row_below, column_below}
-
-zero_fits : SFits w16 (pos 0)
-zero_fits = record { sfits = omega (arith, ints) }
-
--- a list whose first numbers are all, and have 16 bits
-pub numbers_by : (n : ℕ) (f : ℕ → ℤ) (xs : List ℤ) → length xs ≤ n → HasFirst n f xs → ((k : ℕ) → SFits w16 (f k)) → Numbers xs
-numbers_by n f xs whole each fits k =
-    ⊎_elim
-    (λ (below : k < n). subst (SFits w16) (sym (each k below)) (fits k))
-    (λ (past : n ≤ k). subst (SFits w16) (sym (get_or_past xs k (pos 0) (omega (arith, past, whole)))) zero_fits)
-    (cases_lt k n)
-
-pub clip_fits : (z : ℤ) → SFits w16 (clip16 z)
-clip_fits z = fits_of (clip16 z) z refl
-  where
-    fits_of : (y z : ℤ) → y ≡ clip16 z → SFits w16 y
-    fits_of (pos n) z e = record { sfits = omega (arith, ints, clamps, e) }
-    fits_of (negsuc n) z e = record { sfits = omega (arith, ints, clamps, e) }
+use Rattle.hv_tables.specs.TransformMatrix.{transMatrix}
+use Rattle.hv_lanes.proofs.SumLemmas.{sum_of_same}
+use Rattle.std.proofs.lemmas.Bool.{cases_lt}
+use mathlib.Core.Logic.{⊎_elim}
+use Rattle.hv_lemmas.specs.Clipping.{clip16}
+use Rattle.hv_lanes.proofs.PlaceLemmas.{column_of_place, place_inside, row_of_place}
+use Rattle.std.specs.Int.RustNames.{unsigned_abs}
+use Rattle.hv_lanes.proofs.NumberLemmas.{size_of_clipped, size_of_rounded}
+use Rattle.std.proofs.lemmas.Int.{clamps, ints}
+use Rattle.std.proofs.lemmas.Nat.{pow_pos}
+use Rattle.hv_transform.proofs.MeanLemmas.{column_small}
+use Rattle.hv_lanes.proofs.SquareLemmas.{column_below, row_below, square_is}
 
 pub mean_fits : (d : ℕ) (rows : List (List ℤ)) (s k : ℕ) → SFits w16 (pass_mean d rows s k)
 mean_fits d rows s k = clip_fits (rounded (column_sum (d + 2) (in_order d (numbers_from rows (k / 2 ^ (d + 2)) 0)) (k % 2 ^ (d + 2))) s)

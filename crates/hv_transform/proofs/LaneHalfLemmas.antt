@@ -1,40 +1,11 @@
 -- Sums of products in lanes are halves of sums over columns.
-use Rattle.std.proofs.Common.{◌≡◌, ℕ, ◌+◌, ◌*◌, ◌<◌, List, ℤ, ◌+ℤ◌, ◌*ℤ◌, arith, ap, ap₂, ◌∙◌, sym, zero, suc}
-use Rattle.std.proofs.lemmas.Int.{ints}
+use Rattle.std.proofs.Common.{List, ap, ap₂, arith, sym, ℕ, ℤ, ◌*ℤ◌, ◌*◌, ◌+ℤ◌, ◌+◌, ◌<◌, ◌∙◌, ◌≡◌}
 use Rattle.hv_tables.specs.TransformMatrix.{transMatrix}
-use Rattle.hv_sample_model.specs.Blocks.{sum_of}
-use Rattle.hv_transform.specs.Lanes.{FourLanes, in_pairs, lane_sum, weight, column_sum, odd_sum, in_order, numbers_from, two_sums, HasEven, HasOdd, ColumnSums}
-use Rattle.hv_transform.proofs.SumLemmas.{sum_of_same}
-use Rattle.hv_transform.proofs.FourLaneLemmas.{same_lanes, Odd}
-
-pub append_sum : (n m : ℕ) (h : ℕ → ℤ) → sum_of (n + m) h ≡ sum_of n h +ℤ sum_of m (λ r. h (n + r))
-unfolding sum_of
-append_sum n zero h =
-    let none : n + zero ≡ n = omega arith in
-    ap (λ k. sum_of k h) none ∙ omega (arith, ints)
-append_sum n (suc m) h =
-    let more : n + suc m ≡ suc (n + m) = omega arith in
-    ap (λ k. sum_of k h) more ∙ omega (arith, ints, append_sum n m h)
-
--- four products of a sum
-abbrev pub chunk : (ℕ → ℤ) → ℕ → ℤ
-chunk h q = sum_of 4 (λ r. h (4 * q + r))
-
-pub eight_sum : (h : ℕ → ℤ) → sum_of 8 h ≡ chunk h 0 +ℤ chunk h 1
-eight_sum h =
-    append_sum 4 4 h ∙
-    ap₂ (λ a b. a +ℤ b)
-    (sum_of_same 4 h (λ r. h (4 * 0 + r)) (λ r below. ap h (omega arith)))
-    (sum_of_same 4 (λ r. h (4 + r)) (λ r. h (4 * 1 + r)) (λ r below. ap h (omega arith)))
-
-pub sixteen_sum : (h : ℕ → ℤ) → sum_of 16 h ≡ (chunk h 0 +ℤ chunk h 1) +ℤ (chunk h 2 +ℤ chunk h 3)
-sixteen_sum h =
-    append_sum 8 8 h ∙
-    ap₂ (λ a b. a +ℤ b) (eight_sum h)
-    (eight_sum (λ r. h (8 + r)) ∙
-    ap₂ (λ a b. a +ℤ b)
-    (sum_of_same 4 (λ r. h (8 + (4 * 0 + r))) (λ r. h (4 * 2 + r)) (λ r below. ap h (omega arith)))
-    (sum_of_same 4 (λ r. h (8 + (4 * 1 + r))) (λ r. h (4 * 3 + r)) (λ r below. ap h (omega arith))))
+use Rattle.hv_transform.specs.Columns.{ColumnSums, HasEven, HasOdd, column_sum, in_order, lane_sum, numbers_from, odd_sum, two_sums}
+use Rattle.hv_lanes.proofs.SumLemmas.{chunk, eight_sum, sixteen_sum, sum_of_same}
+use Rattle.hv_lanes.specs.Lanes.{FourLanes, in_pairs, weight}
+use Rattle.hv_lanes.proofs.FourLaneLemmas.{same_lanes}
+use Rattle.hv_transform.proofs.ColumnLaneLemmas.{Odd}
 
 -- the products of an odd half, at place n
 abbrev odd_product : ℕ → List (List ℤ) → ℕ → ℕ → ℕ → ℕ → ℤ

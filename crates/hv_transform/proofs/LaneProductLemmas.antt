@@ -1,15 +1,45 @@
 -- The sums of four products in lanes, as sums over numbers in pairs.
-use Rattle.std.proofs.Common.{◌≡◌, ℕ, ◌+◌, ◌*◌, ◌<◌, ◌≤◌, List, [], ◌∷◌, ℤ, pos, ◌+ℤ◌, ◌*ℤ◌, refl, arith, ap, ap₂, ◌∙◌, sym, subst, zero, suc, length, take, drop}
-use Rattle.std.proofs.lemmas.Int.{ints, SFits-int_wrap, to_z-of_z}
-use Rattle.std.proofs.lemmas.List.{length-take, get_or-take, get_or-drop, get_or_past}
+use Rattle.std.proofs.Common.{List, [], ap, ap₂, arith, drop, length, map, pos, refl, subst, suc, sym, take, zero, ℕ, ℤ, ◌*ℤ◌, ◌*◌, ◌++◌, ◌+ℤ◌, ◌+◌, ◌<◌, ◌∙◌, ◌∷◌, ◌≡◌, ◌≤◌}
+use lib.ListN.{get_or}
+use mir.Syntax.{w16, w32}
+use mir.Val.{SFits, of_z}
+use Rattle.hv_lanes.proofs.LaneSumLemmas.{end, lane, lane_is, numbers}
+use Rattle.hv_lanes.specs.Lanes.{FourLanes, Numbers, at, in_pairs, weight}
+use Rattle.hv_transform.specs.Columns.{lane_sum, pair_of, quad}
+use Rattle.std.proofs.lemmas.List.{get_or-drop, get_or-take, get_or_past, length-take}
+use Rattle.hv_lanes.specs.Passes.{table_row}
+use Rattle.std.proofs.lemmas.Int.{SFits-int_wrap, ints, to_z-of_z}
 use Rattle.std.proofs.Math.IntN.{*ℤ_comm}
 use Rattle.std.specs.Int.{int_wrap}
-use mir.Syntax.{w16, w32}
-use mir.Val.{SFits}
 use Rattle.hv_sample_model.specs.Blocks.{sum_of}
-use Rattle.hv_transform.specs.Passes.{table_row}
-use Rattle.hv_transform.specs.Lanes.{at, quad, Numbers, FourLanes, pair_of, in_pairs, weight, lane_sum}
-use Rattle.hv_transform.proofs.LaneStepLemmas.{by_four, passed}
+use Rattle.hv_lanes.proofs.LaneStepLemmas.{by_four, passed}
+
+others : (k : ℕ) (xs : List ℤ) (ys : List ℕ) → length xs ≡ 2 → get_or (map (of_z w16) (take 2 xs) ++ ys) (suc (suc k)) 0 ≡ get_or ys k 0
+others k [] ys l = absurd (omega arith)
+others k (x ∷ []) ys l = absurd (omega arith)
+others k (x ∷ y ∷ []) ys l = refl
+others k (x ∷ y ∷ z ∷ xs) ys l = absurd (omega arith)
+
+pub quad_is : (xs₀ bs₀ ws : List ℤ) (ys : List ℕ) (j k : ℕ) → k ≡ 2 * j → k + 10 ≤ 16 → length xs₀ ≡ 2 → length bs₀ ≡ 2 → length ws ≡ 16 → Numbers xs₀ → Numbers bs₀ → Numbers ws
+    → (let xs = map (of_z w16) (take 2 xs₀) ++ map (of_z w16) (take 2 bs₀) in
+    let vs = map (of_z w16) (take 16 ws) ++ ys in
+    lane (get_or xs 0 0) (get_or xs 1 0) (get_or xs 2 0) (get_or xs 3 0) (get_or vs k 0) (get_or vs (k + 1) 0) (get_or vs (8 + k) 0) (get_or vs (8 + k + 1) 0)) ≡ quad xs₀ bs₀ ws j
+quad_is xs₀ bs₀ ws ys j k e le la lb lw fa fb fw =
+    let rest : List ℕ = map (of_z w16) (take 2 bs₀) in
+    rw (
+      numbers 2 0 xs₀ rest la (omega arith),
+      numbers 2 1 xs₀ rest la (omega arith),
+      others 0 xs₀ rest la,
+      others 1 xs₀ rest la,
+      end 2 0 bs₀ lb (omega arith),
+      end 2 1 bs₀ lb (omega arith),
+      numbers 16 k ws ys lw (omega arith),
+      numbers 16 (k + 1) ws ys lw (omega arith),
+      numbers 16 (8 + k) ws ys lw (omega arith),
+      numbers 16 (8 + k + 1) ws ys lw (omega arith),
+      ← e,
+    )
+    (lane_is (at xs₀ 0) (at xs₀ 1) (at bs₀ 0) (at bs₀ 1) (at ws k) (at ws (k + 1)) (at ws (8 + k)) (at ws (8 + k + 1)) (fa 0) (fa 1) (fb 0) (fb 1) (fw k) (fw (k + 1)) (fw (8 + k)) (fw (8 + k + 1)))
 
 number_of_pair : (rows : List (List ℤ)) (p i h : ℕ) → h < 2 → at (pair_of (table_row rows p) i) h ≡ in_pairs rows i (2 * p + h)
 number_of_pair rows p i h small =

@@ -1,41 +1,28 @@
 -- The means of sums over columns, from their lanes.
-use Rattle.std.proofs.Common.{◌≡◌, ℕ, ◌+◌, ◌-◌, ◌*◌, ◌^◌, ◌<◌, ◌≤◌, List, ◌++◌, ℤ, pos, negsuc, ◌+ℤ◌, ◌*ℤ◌, arith, ap, ap₂, ◌∙◌, sym, subst, zero, suc, length, map, All}
+use Rattle.hv_lanes.proofs.WeightLemmas.{light, size_of_products}
+use Rattle.std.proofs.Common.{All, List, ap, ap₂, arith, length, length-append, map, pos, subst, sym, ℕ, ℤ, ◌*◌, ◌++◌, ◌+◌, ◌-◌, ◌<◌, ◌^◌, ◌∙◌, ◌≡◌, ◌≤◌}
 use Rattle.std.specs.Int.RustNames.{unsigned_abs}
-use Rattle.std.proofs.lemmas.Int.{ints, unsigned_abs-mul, int_wrap_fits, fits_signed_from_abs}
-use Rattle.std.proofs.lemmas.Bool.{cases_lt}
-use Rattle.std.proofs.lemmas.List.{get_or_append_left, get_or-append_right, get_or-map, length-map}
-use Rattle.std.proofs.Common.{length-append}
-use Rattle.std.proofs.lemmas.List.Elements.{All-from_get_or}
-use Rattle.std.proofs.Math.Nat.{mul-le-mul_left, mul-le-mul_right, add-mul}
-use Rattle.std.proofs.lemmas.Nat.{mod-mul-add, div-mul-add}
-use mathlib.Core.Logic.{⊎_elim}
-use borrow.Rule.Slice.PartMut.{put_mid}
+use Rattle.std.proofs.Math.Nat.{mul-le-mul_right}
+use Rattle.hv_tables.specs.TransformMatrix.{transMatrix}
+use Rattle.hv_transform.specs.Columns.{ColumnSums, HaveBits, column_mean, column_sum, in_order, numbers_from, pass_mean}
+use Rattle.hv_lanes.proofs.NumberLemmas.{small_number}
 use mir.Syntax.{w16, w32}
 use mir.Val.{SFits}
-use Rattle.hv_tables.specs.TransformMatrix.{transMatrix}
-use Rattle.hv_sample_model.specs.Blocks.{sum_of, total_of}
+use Rattle.hv_transform.proofs.OrderLemmas.{in_order_all}
+use Rattle.std.proofs.lemmas.Int.{fits_signed_from_abs, int_wrap_fits}
+use Rattle.hv_lanes.specs.Lanes.{at}
+use Rattle.std.proofs.lemmas.List.Elements.{All-from_get_or}
+use Rattle.hv_lanes.proofs.FourLaneLemmas.{kept_lanes}
+use Rattle.hv_lanes.proofs.LaneStepLemmas.{passed}
+use Rattle.std.proofs.lemmas.Bool.{cases_lt}
+use Rattle.std.proofs.lemmas.List.{get_or-append_right, get_or-map, get_or_append_left, length-map}
+use mathlib.Core.Logic.{⊎_elim}
 use Rattle.hv_lemmas.specs.Clipping.{clip16}
 use Rattle.hv_sample_model.specs.Quantisation.{rounded}
-use Rattle.hv_transform.specs.Passes.{HasFirst}
-use Rattle.hv_transform.specs.Lanes.{at, ColumnSums, HaveBits, column_sum, in_order, numbers_from, column_mean, pass_mean}
-use Rattle.hv_transform.proofs.FourLaneLemmas.{kept_lanes}
-use Rattle.hv_transform.proofs.LaneStepLemmas.{passed}
-use Rattle.hv_transform.proofs.OrderLemmas.{in_order_all}
-use Rattle.hv_transform.proofs.PartLemmas.{HasFirst-put}
-use Rattle.hv_transform.proofs.WeightLemmas.{light}
-
-pub size_of_products : (n most : ℕ) (t c : ℕ → ℤ) → ((k : ℕ) → k < n → unsigned_abs (c k) ≤ most) → unsigned_abs (sum_of n (λ k. t k *ℤ c k)) ≤ total_of n (λ k. unsigned_abs (t k)) * most
-unfolding sum_of total_of
-size_of_products zero most t c h = omega (arith, ints)
-size_of_products (suc n) most t c h =
-    let before : ℕ = total_of n (λ k. unsigned_abs (t k)) in
-    let sum : ℤ = sum_of n (λ k. t k *ℤ c k) in
-    let first : unsigned_abs sum ≤ before * most = size_of_products n most t c (λ k below. h k (omega (arith, below))) in
-    let second : unsigned_abs (t n) * unsigned_abs (c n) ≤ unsigned_abs (t n) * most = mul-le-mul_left (unsigned_abs (t n)) (h n (omega arith)) in
-    let product : unsigned_abs (t n *ℤ c n) ≡ unsigned_abs (t n) * unsigned_abs (c n) = unsigned_abs-mul (t n) (c n) in
-    let joined : unsigned_abs (sum +ℤ (t n *ℤ c n)) ≤ unsigned_abs sum + unsigned_abs (t n *ℤ c n) = omega (arith, ints) in
-    let spread : (before + unsigned_abs (t n)) * most ≡ before * most + unsigned_abs (t n) * most = add-mul before (unsigned_abs (t n)) most in
-    omega (arith, first, second, product, joined, spread)
+use borrow.Rule.Slice.PartMut.{put_mid}
+use Rattle.hv_lanes.specs.Passes.{HasFirst}
+use Rattle.hv_lanes.proofs.PartLemmas.{HasFirst-put}
+use Rattle.std.proofs.lemmas.Nat.{div-mul-add, mod-mul-add}
 
 -- a sum over a column of numbers of 16 bits
 pub column_small : (log2 n : ℕ) (c : ℕ → ℤ) → 2 ≤ log2 → log2 ≤ 5 → n < 2 ^ log2 → ((k : ℕ) → k < 2 ^ log2 → unsigned_abs (c k) ≤ 32768) → unsigned_abs (column_sum log2 c n) ≤ 67108864
@@ -43,10 +30,6 @@ column_small log2 n c least greatest inside h =
     let heavy = size_of_products (2 ^ log2) 32768 (λ k. transMatrix log2 k n) c h in
     let weight = mul-le-mul_right 32768 (light log2 n least greatest inside).1 in
     omega (arith, heavy, weight)
-
-pub small_number : (z : ℤ) → SFits w16 z → unsigned_abs z ≤ 32768
-small_number (pos n) f = omega (arith, ints, f)
-small_number (negsuc n) f = omega (arith, ints, f)
 
 pub order_small : (d : ℕ) (rows : List (List ℤ)) (i p : ℕ) → HaveBits (2 ^ (d + 2)) rows i p → (k : ℕ) → k < 2 ^ (d + 2) → unsigned_abs (in_order d (numbers_from rows i p) k) ≤ 32768
 order_small d rows i p h k below = small_number _ (in_order_all (SFits w16) d (numbers_from rows i p) h k below)
@@ -95,9 +78,6 @@ pub means_more : (d n s k : ℕ) (c : ℕ → ℤ) (a b out new : List ℤ) → 
 means_more d n s k c a b out new few inside small h g e room old =
     let means = means_are d n s c a b new few inside small h g e in
     HasFirst-put n 8 k (column_mean d c s) out new room means.0 old means.1
-
-pub none_yet : (f : ℕ → ℤ) (out : List ℤ) → HasFirst 0 f out
-none_yet f out k below = absurd (omega (arith, below))
 
 -- one more row of a pass
 pub row_more : (d i s k : ℕ) (rows : List (List ℤ)) (out new : List ℤ) → i * 2 ^ (d + 2) ≤ length out → length new ≡ 2 ^ (d + 2) → HasFirst (2 ^ (d + 2)) (column_mean d (numbers_from rows i 0) s) new

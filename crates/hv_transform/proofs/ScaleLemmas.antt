@@ -1,13 +1,13 @@
 -- Scaling without the factor 16, which is shifted away.
-use Rattle.std.proofs.Common.{◌≡◌, ℕ, ◌+◌, ◌-◌, ◌*◌, ◌/◌, ◌^◌, ◌<◌, ◌≤◌, ℤ, pos, negsuc, ◌+ℤ◌, ◌*ℤ◌, refl, arith, ap, ap₂, ◌∙◌, sym, zero, suc}
-use Rattle.std.specs.Prelude.{neg_ℤ}
+use Rattle.std.proofs.Common.{ap, ap₂, arith, negsuc, pos, refl, suc, sym, zero, ℕ, ℤ, ◌*ℤ◌, ◌*◌, ◌+ℤ◌, ◌+◌, ◌-◌, ◌/◌, ◌<◌, ◌^◌, ◌∙◌, ◌≡◌, ◌≤◌}
 use Rattle.std.specs.Int.Signed.{shr_z}
+use Rattle.std.proofs.Math.Nat.{div-div-eq-div-mul, mul-div-mul_left, mul_assoc, mul_comm}
+use Rattle.std.specs.Prelude.{neg_ℤ}
 use Rattle.std.proofs.lemmas.Int.{ints}
 use Rattle.std.proofs.lemmas.Bool.{cases_lt}
-use Rattle.std.proofs.lemmas.Nat.{pow-add}
-use Rattle.std.proofs.Math.Nat.{mul-div-mul_left, div-div-eq-div-mul, mul_assoc, mul_comm}
-use Rattle.std.proofs.Math.IntN.{*ℤ_comm, *ℤ-negsuc}
+use Rattle.std.proofs.Math.IntN.{*ℤ-negsuc, *ℤ_comm}
 use mathlib.Core.Logic.{⊎_elim}
+use Rattle.std.proofs.lemmas.Nat.{pow-add}
 use Rattle.hv_lemmas.specs.Clipping.{clip16}
 use Rattle.hv_tables.specs.Quantisers.{levelScale}
 use Rattle.hv_sample_model.specs.Quantisation.{rounded}

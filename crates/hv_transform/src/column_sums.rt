@@ -3,11 +3,12 @@
 //! The rows have pairs of coefficients, in the order that `in_order` says. The sums of 2m places
 //! use those of m places for the coefficients with even numbers: place n is the sum of both halves,
 //! and place 2m - 1 - n their difference.
-ghost use Rattle.std.specs.Prelude.{ℕ, Bool, true, ◌+◌, ◌*◌, ◌≡◌, ◌<◌, ◌≤◌, length, ◌+ℤ◌};
-ghost use Rattle.hv_transform.specs.Passes.{table_row};
-ghost use Rattle.hv_transform.specs.Lanes.{Numbers, FourLanes, HaveBits, AreFew, two_sums, numbers_from, ColumnSums, HasWeights};
+ghost use Rattle.std.specs.Prelude.{true, ◌+◌, ◌*◌, ◌≡◌, ◌<◌, ◌≤◌, ◌+ℤ◌};
+ghost use Rattle.hv_lanes.specs.Lanes.{Numbers, FourLanes};
+ghost use Rattle.hv_transform.specs.Columns.{HaveBits, AreFew, two_sums, numbers_from, ColumnSums, HasWeights};
 
-use crate::lanes::{lane_sums, mirrored_differences, sums};
+use crate::products::{lane_sums, mirrored_differences};
+use hv_lanes::sums;
 use std::simd::prelude::*;
 
 /// Sums of the products of 8 numbers of column i, from those of row p on. The last four are 0 if

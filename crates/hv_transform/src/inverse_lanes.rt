@@ -1,19 +1,37 @@
-//! The inverse transform of blocks of 8, 16 and 32 columns, in lanes.
+//! The inverse transform of blocks of 4, 8, 16 and 32 columns, in lanes.
 //!
 //! Where all coefficients lie in the first eight columns and rows, as most do, the first pass goes
 //! over eight columns, and both passes leave out the products of coefficients that are 0.
 ghost use Rattle.std.specs.Prelude.{ℕ, ◌+◌, ◌*◌, ◌≡◌, ◌<◌, ◌≤◌, length, pos};
 ghost use Rattle.hv_sample_model.specs.InverseTransform.{inverse_transformed};
-ghost use Rattle.hv_transform.specs.Ranges.{Have16Bits};
-ghost use Rattle.hv_transform.specs.Lanes.{at, Numbers, IsShort, HaveBits, AreFew, pass_mean};
-ghost use Rattle.hv_transform.specs.Passes.{HasFirst};
+ghost use Rattle.hv_lanes.specs.Ranges.{Have16Bits};
+ghost use Rattle.hv_lanes.specs.Lanes.{at, Numbers, IsShort};
+ghost use Rattle.hv_transform.specs.Columns.{HaveBits, AreFew, pass_mean};
+ghost use Rattle.hv_lanes.specs.Passes.{HasFirst};
 
-use crate::inverse_passes::{pass_8, pass_16, pass_32};
+use crate::corner::{is_corner, narrow};
+use crate::inverse_passes::{pass_4, pass_8, pass_16, pass_32};
 use crate::lane_weights::{
-    first_weights_8, first_weights_16, first_weights_32, second_weights_8, second_weights_16,
-    second_weights_32,
+    first_weights_4, first_weights_8, first_weights_16, first_weights_32, second_weights_4,
+    second_weights_8, second_weights_16, second_weights_32,
 };
-use crate::weave::{is_corner, narrow, order_of_8, order_of_16, order_of_32, weave};
+use crate::orders::{order_of_8, order_of_16, order_of_32};
+use hv_lanes::{pairs_of_4, weave};
+
+/// The residual of a block of 4 columns.
+#[inline(never)]
+pub(crate) fn inverse_4(coefficients: &[i32], out: &mut [i16])
+    requires block { length coefficients.now ≡ 16 }
+    requires range { Have16Bits coefficients.now }
+    requires room { length out.old ≡ 16 }
+    ensures { out.new ≡ inverse_transformed 2 coefficients.now }
+{
+    let mut block = [0; 16];
+    let mut halfway = [0; 16];
+    narrow(coefficients, &mut block);
+    pass_4(&pairs_of_4(&block), first_weights_4(), 7, &mut halfway);
+    pass_4(&pairs_of_4(&halfway), second_weights_4(), 12, out);
+}
 
 /// The residual of a block of 8 columns.
 #[inline(never)]

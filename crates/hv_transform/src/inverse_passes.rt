@@ -2,12 +2,45 @@
 //!
 //! Row i of what a pass writes has the means of the sums over column i: so the second pass takes
 //! what the first wrote as it stands, and writes the rows of the residual.
-ghost use Rattle.std.specs.Prelude.{ℕ, Bool, true, ◌+◌, ◌*◌, ◌≡◌, ◌<◌, ◌≤◌, length};
-ghost use Rattle.hv_transform.specs.Passes.{HasFirst};
-ghost use Rattle.hv_transform.specs.Lanes.{HaveBits, AreFew, HasWeights, numbers_from, column_mean, pass_mean};
+ghost use Rattle.std.specs.Prelude.{ℕ, true, ◌+◌, ◌*◌, ◌≡◌, ◌<◌, ◌≤◌, length};
+ghost use Rattle.hv_lanes.specs.Passes.{HasFirst};
+ghost use Rattle.hv_lanes.specs.Lanes.{Numbers};
+ghost use Rattle.hv_transform.specs.Columns.{HasEven, HaveBits, AreFew, HasWeights, numbers_from, column_mean, pass_mean};
 
 use crate::column_sums::{column_of_8, column_of_16, column_of_32};
-use crate::lanes::put_means;
+use crate::products::lane_sums;
+use hv_lanes::put_means;
+
+/// The means of the sums over the columns 2 i and 2 i + 1 of 4.
+#[inline(always)]
+fn rows_of_4(rows: &[[i16; 8]; 2], i: usize, weights: &[i16; 16], shift: u32, out: &mut [i16])
+    requires columns { i < 2 }
+    requires numbers { (u : ℕ) → u < 4 → HaveBits 4 rows.now u 0 }
+    requires weights { HasEven weights.now }
+    requires small { Numbers weights.now }
+    requires some { 0 < shift }
+    requires shift_most { shift ≤ 12 }
+    requires room { length out.old ≡ 8 }
+    ensures { HasFirst 8 (λ k. pass_mean 0 rows.now shift (8 * i + k)) out.new }
+{
+    let first = lane_sums(rows, 0, 2 * i, weights);
+    let second = lane_sums(rows, 0, 2 * i + 1, weights);
+    put_means(first, second, shift, out);
+}
+
+/// A pass over 4 columns.
+#[inline(always)]
+pub(crate) fn pass_4(rows: &[[i16; 8]; 2], table: &[[i16; 16]; 2], shift: u32, out: &mut [i16])
+    requires numbers { (i : ℕ) → i < 4 → HaveBits 4 rows.now i 0 }
+    requires weights { HasWeights 2 table.now }
+    requires some { 0 < shift }
+    requires shift_most { shift ≤ 12 }
+    requires room { length out.old ≡ 16 }
+    ensures { HasFirst 16 (pass_mean 0 rows.now shift) out.new }
+{
+    rows_of_4(rows, 0, &table[0], shift, &mut out[0..8]);
+    rows_of_4(rows, 1, &table[0], shift, &mut out[8..16]);
+}
 
 /// The means of the sums over column i of 8.
 #[inline(always)]

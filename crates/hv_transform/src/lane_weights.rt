@@ -9,9 +9,21 @@
 //! The last row is the shift of the pass. Each pass has a table of its own, since the compiler
 //! would widen the weights of a table that both have outside the loop over the columns, and the
 //! multiplication of pairs would be lost.
-ghost use Rattle.std.specs.Prelude.{◌≡◌, ℤ, pos, replicate};
-ghost use Rattle.hv_transform.specs.Passes.{table_row};
-ghost use Rattle.hv_transform.specs.Lanes.{HasWeights};
+ghost use Rattle.hv_transform.specs.Columns.{HasWeights};
+
+/// Side 4, columns: the first pass.
+#[rattlefmt::skip]
+static FIRST_4: [[i16; 16]; 2] = [
+    /* four     */ [ 64,  83,  64,  36,  64, -36,  64, -83,  64,  36, -64, -83, -64,  83,  64, -36],
+    /* shift    */ [  7,   7,   7,   7,   7,   7,   7,   7,   7,   7,   7,   7,   7,   7,   7,   7],
+];
+
+/// Side 4, rows: the second pass.
+#[rattlefmt::skip]
+static SECOND_4: [[i16; 16]; 2] = [
+    /* four     */ [ 64,  83,  64,  36,  64, -36,  64, -83,  64,  36, -64, -83, -64,  83,  64, -36],
+    /* shift    */ [ 12,  12,  12,  12,  12,  12,  12,  12,  12,  12,  12,  12,  12,  12,  12,  12],
+];
 
 /// Side 8, columns: the first pass.
 #[rattlefmt::skip]
@@ -108,6 +120,22 @@ static SECOND_32: [[i16; 16]; 23] = [
     /* 32 12 12 */ [ 67, -13, -13, -31, -46,  67,  85, -88, -46,  85,  67, -88, -82,  90,  90, -90],
     /* shift    */ [ 12,  12,  12,  12,  12,  12,  12,  12,  12,  12,  12,  12,  12,  12,  12,  12],
 ];
+
+/// The weights of side 4, for the first pass.
+#[inline(always)]
+pub(crate) fn first_weights_4() -> &'static [[i16; 16]; 2]
+    ensures { HasWeights 2 result.now }
+{
+    &FIRST_4
+}
+
+/// The weights of side 4, for the second pass.
+#[inline(always)]
+pub(crate) fn second_weights_4() -> &'static [[i16; 16]; 2]
+    ensures { HasWeights 2 result.now }
+{
+    &SECOND_4
+}
 
 /// The weights of side 8, for the first pass.
 #[inline(always)]

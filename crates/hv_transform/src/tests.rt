@@ -1,19 +1,10 @@
 //! Worked values.
-ghost use Rattle.std.specs.Prelude.{◌≡◌, ◌^◌, ◌<◌, ◌≤◌};
+ghost use Rattle.std.specs.Prelude.{◌≡◌, ◌^◌, ◌≤◌};
 
 use super::*;
 
-/// A block with one level.
-fn one_level<const AREA: usize>(place: usize, level: i16) -> [i16; AREA]
-    requires { place < AREA }
-{
-    let mut levels = [0; AREA];
-    levels[place] = level;
-    levels
-}
-
-/// The residual of levels.
-fn residual_of<const AREA: usize>(levels: &[i16; AREA], log2: u8, qp: u8) -> [i16; AREA]
+/// What stands at a place of the residual of some levels.
+fn residual_at<const AREA: usize>(levels: &[i16; AREA], log2: u8, qp: u8, place: usize) -> i16
     requires least { 2 ≤ log2 }
     requires greatest { log2 ≤ 5 }
     requires area { AREA ≡ 4 ^ log2 }
@@ -24,121 +15,78 @@ fn residual_of<const AREA: usize>(levels: &[i16; AREA], log2: u8, qp: u8) -> [i1
     let mut residual = [7; AREA];
     scale(levels, log2, qp, &mut coefficients);
     inverse(&coefficients, log2, &mut residual);
-    residual
-}
-
-#[test]
-fn flat_block(rt: HostRuntime) {
-    let mut coefficients = [7i32; 64];
-    let mut levels = [7i16; 64];
-    let mut residual = [7i16; 64];
-    forward(&[10; 64], 3, &mut coefficients);
-    assert_eq!(rt; coefficients[0], 1280);
-    assert!(rt; quantise(&coefficients, 3, 32, true, &mut levels));
-    assert_eq!(rt; levels[0], 3);
-    for i in 1..64usize {
-        assert_eq!(rt; levels[i], 0, "at {i}");
-    }
-    scale(&levels, 3, 32, &mut coefficients);
-    assert_eq!(rt; coefficients[0], 1224);
-    inverse(&coefficients, 3, &mut residual);
-    for i in 0..64usize {
-        assert_eq!(rt; residual[i], 10, "at {i}");
+    if place < AREA {
+        residual[place]
+    } else {
+        i16::MAX
     }
 }
 
-/// The greatest differences of samples have the coefficient 32640, alone.
-#[test]
-fn greatest_differences(rt: HostRuntime) {
-    let mut coefficients = [0i32; 16];
-    forward(&[255; 16], 2, &mut coefficients);
-    assert_eq!(rt; coefficients[0], 32640);
-    assert_eq!(rt; coefficients[15], 0);
-    let mut coefficients = [0i32; 64];
-    forward(&[-255; 64], 3, &mut coefficients);
-    assert_eq!(rt; coefficients[0], -32640);
-    assert_eq!(rt; coefficients[63], 0);
-    let mut coefficients = [0i32; 256];
-    forward(&[-255; 256], 4, &mut coefficients);
-    assert_eq!(rt; coefficients[0], -32640);
-    assert_eq!(rt; coefficients[255], 0);
-    let mut coefficients = [0i32; 1024];
-    forward(&[255; 1024], 5, &mut coefficients);
-    assert_eq!(rt; coefficients[0], 32640);
-    assert_eq!(rt; coefficients[1023], 0);
+/// The same, where one level alone isn't 0, and the quantiser is 4.
+fn of_one_level<const AREA: usize>(log2: u8, from: usize, level: i16, place: usize) -> i16
+    requires least { 2 ≤ log2 }
+    requires greatest { log2 ≤ 5 }
+    requires area { AREA ≡ 4 ^ log2 }
+    requires most { AREA ≤ 1024 }
+{
+    let mut levels = [0; AREA];
+    if from < AREA {
+        levels[from] = level;
+    }
+    residual_at(&levels, log2, 4, place)
 }
 
-/// One basis function, of coefficient 384: the second of the rows by the third of the columns.
-#[test]
-fn one_basis_function(rt: HostRuntime) {
-    let levels = [0i16, 0, 0, 0, 0, 0, 0, 0, 0, 12, 0, 0, 0, 0, 0, 0];
-    let mut coefficients = [0i32; 16];
-    let mut residual = [0i16; 16];
-    scale(&levels, 2, 4, &mut coefficients);
-    assert_eq!(rt; coefficients[9], 384);
-    inverse(&coefficients, 2, &mut residual);
-    let wave = [4, 2, -2, -4, -4, -2, 2, 4, -4, -2, 2, 4, 4, 2, -2, -4];
-    assert_eq!(rt; residual.as_slice(), wave.as_slice());
+/// The same, of 2^log2 columns.
+fn at_side(log2: u8, from: usize, level: i16, place: usize) -> i16 {
+    match log2 {
+        2 => of_one_level::<16>(2, from, level, place),
+        3 => of_one_level::<64>(3, from, level, place),
+        4 => of_one_level::<256>(4, from, level, place),
+        _ => of_one_level::<1024>(5, from, level, place),
+    }
 }
 
-/// The first coefficient alone, 640 at each size: a 128th of it everywhere.
-#[test]
-fn first_coefficient_alone(rt: HostRuntime) {
-    assert_eq!(rt;
-        residual_of(&one_level::<16>(0, 20), 2, 4).as_slice(),
-        [5; 16].as_slice()
-    );
-    assert_eq!(rt;
-        residual_of(&one_level::<64>(0, 40), 3, 4).as_slice(),
-        [5; 64].as_slice()
-    );
-    assert_eq!(rt;
-        residual_of(&one_level::<256>(0, 80), 4, 4).as_slice(),
-        [5; 256].as_slice()
-    );
-    assert_eq!(rt;
-        residual_of(&one_level::<1024>(0, 160), 5, 4).as_slice(),
-        [5; 1024].as_slice()
-    );
-}
+/// The first coefficient alone, 640 at each side, is a 128th of it everywhere. Of the second alone,
+/// 512, each row is a 16th of the second of the matrix. The tenth of four columns, 384, is the
+/// second of the rows by the third of the columns.
+#[rattlefmt::skip]
+const ONE_LEVEL: [(u8, usize, i16, usize, i16); 31] = [
+    // side, place and number of the level, and place and number of the residual
+    (2, 0,  20,   0,  5), (2, 0,  20,  15,  5),
+    (3, 0,  40,   0,  5), (3, 0,  40,  63,  5),
+    (4, 0,  80,   0,  5), (4, 0,  80, 255,  5),
+    (5, 0, 160,   0,  5), (5, 0, 160, 1023, 5),
+    (2, 1,  16,   0,  5), (2, 1,  16,   1,  2), (2, 1,  16,  14, -2), (2, 1,  16,  15, -5),
+    (3, 1,  32,   0,  6), (3, 1,  32,   3,  1), (3, 1,  32,  60, -1), (3, 1,  32,  63, -6),
+    (4, 1,  64,   0,  6), (4, 1,  64,   7,  1), (4, 1,  64,   8, -1), (4, 1,  64,  15, -6),
+    (4, 1,  64, 240,  6),
+    (5, 1, 128,   0,  6), (5, 1, 128,  14,  1), (5, 1, 128,  15,  0), (5, 1, 128,  31, -6),
+    (5, 1, 128, 992,  6),
+    (2, 9,  12,   0,  4), (2, 9,  12,   1,  2), (2, 9,  12,   4, -4), (2, 9,  12,  11,  4),
+    (2, 9,  12,  15, -4),
+];
 
-/// The second coefficient alone, 512 at each size: each row is a 16th of the second of the matrix.
 #[test]
-fn second_coefficient_alone(rt: HostRuntime) {
-    let residual = residual_of(&one_level::<16>(1, 16), 2, 4);
-    assert_eq!(rt; &residual[..4], [5, 2, -2, -5].as_slice());
-    assert_eq!(rt; &residual[12..], [5, 2, -2, -5].as_slice());
-    let residual = residual_of(&one_level::<64>(1, 32), 3, 4);
-    let wave = [6, 5, 3, 1, -1, -3, -5, -6];
-    assert_eq!(rt; &residual[..8], wave.as_slice());
-    assert_eq!(rt; &residual[56..], wave.as_slice());
-    let residual = residual_of(&one_level::<256>(1, 64), 4, 4);
-    assert_eq!(rt; residual[0], 6);
-    assert_eq!(rt; residual[7], 1);
-    assert_eq!(rt; residual[8], -1);
-    assert_eq!(rt; residual[15], -6);
-    assert_eq!(rt; residual[240], 6);
-    let residual = residual_of(&one_level::<1024>(1, 128), 5, 4);
-    assert_eq!(rt; residual[0], 6);
-    assert_eq!(rt; residual[14], 1);
-    assert_eq!(rt; residual[15], 0);
-    assert_eq!(rt; residual[31], -6);
-    assert_eq!(rt; residual[992], 6);
+fn one_level(rt: HostRuntime) {
+    for (log2, from, level, place, residual) in ONE_LEVEL {
+        assert_eq!(rt;
+            at_side(log2, from, level, place),
+            residual,
+            "{log2} {from} {place}"
+        );
+    }
 }
 
 /// The sums of the columns are clipped, and those of the rows have 16 bits by themselves.
 #[test]
 fn extreme_coefficients(rt: HostRuntime) {
-    let residual = residual_of(&[32767; 16], 2, 51);
-    assert_eq!(rt; &residual[..2], [1976, -376].as_slice());
-    let residual = residual_of(&[-32768; 64], 3, 51);
-    assert_eq!(rt; &residual[..2], [-3832, 1032].as_slice());
-    let residual = residual_of(&[32767; 256], 4, 51);
-    assert_eq!(rt; &residual[..2], [7520, -2272].as_slice());
-    let residual = residual_of(&[32767; 1024], 5, 51);
-    assert_eq!(rt; &residual[..2], [14896, -4736].as_slice());
-    let residual = residual_of(&[-32768; 1024], 5, 51);
-    assert_eq!(rt; &residual[..2], [-14896, 4736].as_slice());
+    assert_eq!(rt; residual_at(&[32767; 16], 2, 51, 0), 1976);
+    assert_eq!(rt; residual_at(&[32767; 16], 2, 51, 1), -376);
+    assert_eq!(rt; residual_at(&[-32768; 64], 3, 51, 0), -3832);
+    assert_eq!(rt; residual_at(&[-32768; 64], 3, 51, 1), 1032);
+    assert_eq!(rt; residual_at(&[32767; 256], 4, 51, 1), -2272);
+    assert_eq!(rt; residual_at(&[32767; 1024], 5, 51, 0), 14896);
+    assert_eq!(rt; residual_at(&[-32768; 1024], 5, 51, 1), 4736);
 }
 
 #[test]
@@ -146,22 +94,4 @@ fn extreme_levels(rt: HostRuntime) {
     let mut scaled = [0i32; 4];
     scale(&[32767, -32768, 1, -1], 2, 51, &mut scaled);
     assert_eq!(rt; scaled.as_slice(), [32767, -32768, 7296, -7296].as_slice());
-    let mut levels = [0i16; 4];
-    assert!(rt; quantise(&scaled, 5, 0, true, &mut levels));
-    assert_eq!(rt; levels.as_slice(), [13106, -13107, 2918, -2918].as_slice());
-}
-
-/// A coefficient of a unit that isn't intra has the level 1 from five sixths of a step on.
-#[test]
-fn levels_of_0(rt: HostRuntime) {
-    let mut levels = [7i16; 4];
-    assert!(rt; !quantise(&[0, 340, -340, 0], 3, 32, false, &mut levels));
-    assert_eq!(rt; levels.as_slice(), [0; 4].as_slice());
-    assert!(rt; quantise(&[0, 341, -340, 0], 3, 32, false, &mut levels));
-    assert_eq!(rt; levels.as_slice(), [0, 1, 0, 0].as_slice());
-    let mut eight = [7i16; 8];
-    assert!(rt; !quantise(&[340, -340, 0, 0, 0, 0, 0, 0], 3, 32, false, &mut eight));
-    assert_eq!(rt; eight.as_slice(), [0; 8].as_slice());
-    assert!(rt; quantise(&[0, 0, 0, 0, 0, 0, 0, -341], 3, 32, false, &mut eight));
-    assert_eq!(rt; eight.as_slice(), [0, 0, 0, 0, 0, 0, 0, -1].as_slice());
 }

@@ -1,7 +1,7 @@
 use Rattle.std.proofs.Common.{arith}
-use Rattle.hv_transform.specs.Passes.{table_row}
-use Rattle.hv_transform.specs.Lanes.{numbers_from}
-use Rattle.hv_transform.proofs.FourLaneLemmas.{low_lanes, high_lanes}
+use Rattle.hv_lanes.specs.Passes.{table_row}
+use Rattle.hv_transform.specs.Columns.{numbers_from}
+use Rattle.hv_transform.proofs.ColumnLaneLemmas.{low_lanes, high_lanes}
 use Rattle.hv_transform.proofs.LaneHalfLemmas.{even_lanes, odd_lanes_8}
 use Rattle.hv_transform.proofs.column_sums.column_of_8.Goals as goal
 

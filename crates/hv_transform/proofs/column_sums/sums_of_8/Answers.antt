@@ -1,6 +1,7 @@
 use Rattle.std.proofs.Common.{arith, ℕ, ℤ, ◌*◌, ◌+◌}
-use Rattle.hv_transform.specs.Lanes.{lane_sum, two_sums}
-use Rattle.hv_transform.proofs.FourLaneLemmas.{bits_from, chosen, more_of_0, few_sum, kept_four, is_set}
+use Rattle.hv_transform.specs.Columns.{lane_sum, two_sums}
+use Rattle.hv_transform.proofs.ColumnLaneLemmas.{bits_from, chosen, more_of_0, few_sum}
+use Rattle.hv_lanes.proofs.FourLaneLemmas.{kept_four, is_set}
 use Rattle.hv_transform.proofs.column_sums.sums_of_8.Goals as goal
 use Rattle.hv_transform.proofs.column_sums.sums_of_8.Goals.{then-this-ne0, else-this-ne0}
 

@@ -1,5 +1,6 @@
 use Rattle.std.proofs.Common.{◌+◌, ◌*◌, refl, arith, rules, sym, ◌∙◌}
-use Rattle.hv_transform.specs.Lanes.{Numbers, pass_mean}
+use Rattle.hv_lanes.specs.Lanes.{Numbers}
+use Rattle.hv_transform.specs.Columns.{pass_mean}
 use Rattle.hv_transform.proofs.CornerLemmas.{zeros, zero_rows, few_32, few_others_32, column_of_0, numbers_of_short}
 use Rattle.hv_transform.proofs.InverseLaneLemmas.{mean_fits, bits_of_pairs, inverse_is, pass_at}
 use Rattle.hv_transform.proofs.inverse_lanes.corner_32.Goals as goal

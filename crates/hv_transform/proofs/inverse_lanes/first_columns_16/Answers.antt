@@ -1,8 +1,8 @@
 use Rattle.std.proofs.Common.{arith, rules, ◌∙◌, ap}
-use Rattle.hv_transform.specs.Lanes.{pass_mean}
+use Rattle.hv_transform.specs.Columns.{pass_mean}
 use Rattle.hv_transform.proofs.CornerLemmas.{behind}
-use Rattle.hv_transform.proofs.MeanLemmas.{none_yet}
-use Rattle.hv_transform.proofs.PartLemmas.{HasFirst-put}
+use Rattle.hv_lanes.proofs.PartLemmas.{none_yet}
+use Rattle.hv_lanes.proofs.PartLemmas.{HasFirst-put}
 use Rattle.hv_transform.proofs.inverse_lanes.first_columns_16.Goals as goal
 
 pub pass_16-requires : goal.pass_16-requires

@@ -1,6 +1,6 @@
 use Rattle.std.proofs.Common.{◌∙◌, ap, arith}
 use Rattle.hv_sample_model.specs.InverseTransform.{inverse_transformed}
-use Rattle.hv_transform.proofs.PartLemmas.{same_list}
+use Rattle.hv_lanes.proofs.PartLemmas.{same_list}
 use Rattle.hv_transform.proofs.inverse_lanes.inverse_16.Goals as goal
 
 pub returns-then-is_corner : goal.returns-then-is_corner

@@ -1,9 +1,11 @@
 use Rattle.std.proofs.Common.{arith, rules}
-use Rattle.hv_transform.specs.Passes.{HasFirst}
-use Rattle.hv_transform.specs.Lanes.{at, pass_mean}
-use Rattle.hv_transform.proofs.PartLemmas.{numbers_of_bits}
-use Rattle.hv_transform.proofs.InverseLaneLemmas.{numbers_by, mean_fits, bits_of_pairs, inverse_is, pass_at}
-use Rattle.hv_transform.proofs.PlaceLemmas.{place_inside}
+use Rattle.hv_lanes.specs.Passes.{HasFirst}
+use Rattle.hv_lanes.specs.Lanes.{at}
+use Rattle.hv_transform.specs.Columns.{pass_mean}
+use Rattle.hv_lanes.proofs.PartLemmas.{numbers_of_bits}
+use Rattle.hv_lanes.proofs.PartLemmas.{numbers_by}
+use Rattle.hv_transform.proofs.InverseLaneLemmas.{mean_fits, bits_of_pairs, inverse_is, pass_at}
+use Rattle.hv_lanes.proofs.PlaceLemmas.{place_inside}
 use Rattle.hv_transform.proofs.inverse_lanes.inverse_8.Goals as goal
 
 pub pass_8-requires : goal.pass_8-requires

@@ -1,7 +1,8 @@
 use Rattle.std.proofs.Common.{refl, arith, rules, true≢false, sym}
-use Rattle.hv_transform.specs.Lanes.{pass_mean}
-use Rattle.hv_transform.proofs.InverseLaneLemmas.{numbers_by, mean_fits, bits_of_pairs, inverse_is, pass_at}
-use Rattle.hv_transform.proofs.PlaceLemmas.{place_inside}
+use Rattle.hv_transform.specs.Columns.{pass_mean}
+use Rattle.hv_lanes.proofs.PartLemmas.{numbers_by}
+use Rattle.hv_transform.proofs.InverseLaneLemmas.{mean_fits, bits_of_pairs, inverse_is, pass_at}
+use Rattle.hv_lanes.proofs.PlaceLemmas.{place_inside}
 use Rattle.hv_transform.proofs.inverse_lanes.whole_16.Goals as goal
 
 pub pass_16-requires : goal.pass_16-requires

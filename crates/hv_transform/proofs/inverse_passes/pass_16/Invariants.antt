@@ -1,6 +1,6 @@
 use Rattle.std.proofs.Common.{◌*◌}
-use Rattle.hv_transform.specs.Passes.{HasFirst}
-use Rattle.hv_transform.specs.Lanes.{pass_mean}
+use Rattle.hv_lanes.specs.Passes.{HasFirst}
+use Rattle.hv_transform.specs.Columns.{pass_mean}
 use Rattle.hv_transform.proofs.inverse_passes.pass_16.Given as goal
 
 abbrev pub invariant-loop-i : goal.invariant-loop-i

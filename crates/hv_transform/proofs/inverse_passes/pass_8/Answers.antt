@@ -1,6 +1,7 @@
 use Rattle.std.proofs.Common.{arith, rules, ℕ}
-use Rattle.hv_transform.specs.Lanes.{pass_mean}
-use Rattle.hv_transform.proofs.MeanLemmas.{row_more, none_yet}
+use Rattle.hv_transform.specs.Columns.{pass_mean}
+use Rattle.hv_transform.proofs.MeanLemmas.{row_more}
+use Rattle.hv_lanes.proofs.PartLemmas.{none_yet}
 use Rattle.hv_transform.proofs.inverse_passes.pass_8.Goals as goal
 
 pub returns : goal.returns

@@ -1,6 +1,7 @@
 use Rattle.std.proofs.Common.{arith, rules, ℕ, ℤ}
-use Rattle.hv_transform.specs.Lanes.{numbers_from, column_mean}
-use Rattle.hv_transform.proofs.MeanLemmas.{means_more, none_yet, order_small, lanes_small, lanes_count}
+use Rattle.hv_transform.specs.Columns.{numbers_from, column_mean}
+use Rattle.hv_transform.proofs.MeanLemmas.{means_more, order_small, lanes_small, lanes_count}
+use Rattle.hv_lanes.proofs.PartLemmas.{none_yet}
 use Rattle.hv_transform.proofs.inverse_passes.row_of_32.Goals as goal
 
 pub put_means-requires : goal.put_means-requires

@@ -1,5 +1,5 @@
 use Rattle.std.proofs.Common.{◌≡◌, ◌+◌, ap, ◌∙◌, arith, ℕ, ℤ}
-use Rattle.hv_transform.specs.Lanes.{numbers_from, column_mean}
+use Rattle.hv_transform.specs.Columns.{numbers_from, column_mean}
 use Rattle.hv_transform.proofs.MeanLemmas.{means_are, order_small, lanes_small, lanes_count}
 use Rattle.hv_transform.proofs.inverse_passes.row_of_8.Goals as goal
 

@@ -7,8 +7,8 @@ use Rattle.hv_sample_model.specs.Quantisation.{rounded}
 use Rattle.hv_sample_model.specs.InverseTransform.{scaled}
 use Rattle.hv_tables.specs.Quantisers.{levelScale}
 use Rattle.hv_transform.proofs.ScaleLemmas.{scaled_is}
-use Rattle.hv_transform.proofs.ListLemmas.{map_is, Have16Bits-clipped}
-use Rattle.hv_transform.proofs.PlaceLemmas.{HasFirst-set}
+use Rattle.hv_lanes.proofs.ListLemmas.{map_is, Have16Bits-clipped}
+use Rattle.hv_lanes.proofs.PlaceLemmas.{HasFirst-set}
 use Rattle.hv_transform.proofs.scaling.scale.Goals as goal
 
 pub loop-i-preserved : goal.loop-i-preserved

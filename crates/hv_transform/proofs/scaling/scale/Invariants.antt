@@ -1,6 +1,6 @@
 use Rattle.std.proofs.Common.{pos, slice_index_or}
 use Rattle.hv_sample_model.specs.InverseTransform.{scaled}
-use Rattle.hv_transform.specs.Passes.{HasFirst}
+use Rattle.hv_lanes.specs.Passes.{HasFirst}
 use Rattle.hv_transform.proofs.scaling.scale.Given as goal
 
 abbrev pub invariant-loop-i : goal.invariant-loop-i

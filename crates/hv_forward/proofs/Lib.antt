@@ -1,0 +1,10 @@
+pub mod TableLemmas
+pub mod LevelLemmas
+pub mod ForwardLaneLemmas
+pub mod FoldLemmas
+pub mod RowSumLemmas
+pub mod RowLaneLemmas
+pub mod SizeLemmas
+pub mod ColumnLaneLemmas
+pub mod PowerLemmas
+pub mod ForwardStepLemmas

@@ -1,0 +1,14 @@
+pub mod PlaceLemmas
+pub mod NumberLemmas
+pub mod SumLemmas
+pub mod LaneStepLemmas
+pub mod LaneSumLemmas
+pub mod FourLaneLemmas
+pub mod HalfLemmas
+pub mod PartLemmas
+pub mod WeaveLemmas
+pub mod TableLemmas
+pub mod WeightLemmas
+pub mod ZeroLemmas
+pub mod ListLemmas
+pub mod SquareLemmas

@@ -1,7 +1,0 @@
-use Rattle.std.proofs.Common.{arith}
-use Rattle.hv_transform.proofs.ColumnLaneLemmas.{frequency_more}
-use Rattle.hv_transform.proofs.forward_columns.columns_of_16.Goals as goal
-
-pub loop-v-preserved : goal.loop-v-preserved
-loop-v-preserved c = λ k below.
-    frequency_more 16 c.loop-v.v c.args.shift _ c.args.matrix.now c.args.rows.now c.loop-v.out c.put_row_of_16.new.out (omega arith) (omega arith) c.put_row_of_16.ensures c.loop-v.invariant k (omega (arith, below))

@@ -1,7 +1,0 @@
-use Rattle.std.proofs.Common.{◌*◌}
-use Rattle.hv_transform.specs.Passes.{HasFirst}
-use Rattle.hv_transform.specs.Forward.{rows_mean}
-use Rattle.hv_transform.proofs.forward_lanes.rows_of_32.Given as goal
-
-abbrev pub invariant-loop-y : goal.invariant-loop-y
-invariant-loop-y l = HasFirst (l.y * 32) (rows_mean 5 l.block l.shift) l.out

@@ -1,6 +1,0 @@
-use Rattle.std.proofs.Common.{refl}
-use Rattle.hv_transform.proofs.TableLemmas.{row_weights_are}
-use Rattle.hv_transform.proofs.forward_weights.row_weights_8.Goals as goal
-
-pub returns : goal.returns
-returns c = row_weights_are 3 _ refl

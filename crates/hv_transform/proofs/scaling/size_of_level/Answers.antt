@@ -1,6 +1,0 @@
-use Rattle.hv_transform.proofs.PowerLemmas.{level_small}
-use Rattle.hv_transform.proofs.scaling.size_of_level.Goals as goal
-
-pub returns-clause-most : goal.returns-clause-most
-returns-clause-most c =
-    level_small c.args.size c.args.factor c.args.offset c.args.shift c.requires.range c.requires.most c.requires.least c.requires.part

@@ -2,7 +2,7 @@
 use Rattle.std.proofs.Common.{◌≡◌, ℕ, zero, suc, ◌+◌, ◌*◌, Bool, true, false, cond, List, [], ◌∷◌, refl, arith}
 use Rattle.std.specs.Prelude.{◌-◌, ◌^◌, replicate, pos}
 use Rattle.std.specs.List.{list_all}
-use Rattle.hv_types.specs.declared.bins.SliceKind.TheVariants.{I}
+use Rattle.hv_types.specs.declared.bins.SliceKind.{SliceKind}
 use Rattle.hv_residual_model.specs.ResidualBins.{any_significant}
 use Rattle.hv_unit_model.specs.Trees.{Tree, Leaf, Split, Outside, Intra, no_levels, no_unit, no_units, log2TrafoSize, transform_units, any_level, greatest_size}
 use Rattle.hv_unit_model.specs.Sites.{Site, squares, is_outside, crosses}
@@ -24,9 +24,9 @@ offsets_valid = record {
   chroma = refl;
 }
 
-module _ (site : Site) where
+module _ (slice_type : SliceKind) (references : ℕ) (site : Site) where
   Valid : ℕ → ℕ → Tree → Type 0
-  Valid size address tree = IsValidNode I 0 site size address tree
+  Valid size address tree = IsValidNode slice_type references site size address tree
 
   smallest_valid : (address : ℕ) (outside : Bool) → is_outside site address ≡ outside →
       Valid zero address (cond outside Outside (Leaf (Intra dc) (no_units zero)))
@@ -59,14 +59,18 @@ module _ (site : Site) where
       (node_valid size address) (node_valid size (address + n))
       (node_valid size (address + 2 * n)) (node_valid size (address + 3 * n))
 
-  tree_valid : IsValidNode I 0 site greatest_size 0 (best site)
+  tree_valid : IsValidNode slice_type references site greatest_size 0 (best site)
   unfolding Valid
   tree_valid = node_valid greatest_size 0
 
 pub coded_units_valid : CodedUnitsAreValid
-coded_units_valid [] = tt
-coded_units_valid (site ∷ sites) =
-    (offsets_valid, tree_valid site, refl, coded_units_valid sites)
+coded_units_valid slice_type references [] = tt
+coded_units_valid slice_type references (site ∷ sites) = (
+  offsets_valid,
+  tree_valid slice_type references site,
+  refl,
+  coded_units_valid slice_type references sites,
+)
 
 -- ---- blank
 

@@ -3,7 +3,14 @@ mod ContextLemmas
 pub mod SliceDataLemmas
 pub mod PayloadLemmas
 pub mod SliceLemmas
-pub mod EncodingLemmas
+pub mod GroupLemmas
+mod MembershipLemmas
+mod OrderLemmas
+mod ReferenceLemmas
+mod KeepingLemmas
+mod GroupShownLemmas
+mod ListZeroLemmas
+mod WrittenUnitLemmas
 pub mod RoundTripLemmas
 mod WorkedBlanks
 mod WorkedSlices

@@ -19,10 +19,10 @@ use Rattle.hv_unit_model.specs.Sites.{Site}
 use Rattle.hv_unit_model.specs.Validity.{AreValid}
 use Rattle.hv_unit_model.specs.Bins.{slice_bins}
 use Rattle.hv_unit_model.specs.BlockSyntax.{slice_segment_data}
-use Rattle.hv_model.specs.Slices.{idr_header, nal_unit_type_of, header_fields}
+use Rattle.hv_model.specs.Slices.{idr_header, nal_unit_type_of, header_fields, word_behind, payload_of_slice, unit_of_slice}
 use Rattle.hv_model.specs.Parsing.{CodedPicture, behind_alignment, is_slice_end, if_ended, slice_data, data_behind, sites_of, picture_behind, picture_with, read_idr_header, picture_of_unit}
 use Rattle.hv_stream_model.specs.BitLaws.{missing}
-use Rattle.hv_model.specs.PayloadLaws.{SliceDataIsRead, word_behind, payload_of_slice, unit_of_slice, IsHeader, of_idr, of_other, SlicesAreRead, SlicesEnd}
+use Rattle.hv_model.specs.PayloadLaws.{SliceDataIsRead, IsHeader, of_idr, of_other, SlicesAreRead, SlicesEnd}
 use Rattle.hv_stream_model.proofs.ZeroLemmas.{zeros, length-zeros}
 use Rattle.hv_stream_model.proofs.DigitLemmas.{digits-add}
 use Rattle.hv_stream_model.proofs.BitLemmas.{AreBits-digits, AreBits-append}

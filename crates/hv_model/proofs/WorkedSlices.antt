@@ -15,6 +15,7 @@ use Rattle.hv_unit_model.specs.EarlierUnits.{look_picture}
 use Rattle.hv_unit_model.specs.MostProbableModes.{candModeList}
 use Rattle.hv_unit_model.specs.Bins.{sao_bins, luma_mode_bins, transform_unit_bins, quarters_bins, transform_tree_bins, predicted_bins, bins_of_node, slice_bins}
 use Rattle.hv_model.specs.ModeDecision.{blank_node, best}
+use Rattle.hv_model.specs.Slices.{idr_header}
 use Rattle.hv_model.specs.Encoding.{coded_units, slice_payload}
 
 -- a bin with a context
@@ -117,39 +118,39 @@ bins_of_a_corner = refl
 
 -- ---- code words
 
-slice_of_64x64 : slice_payload 0 (sites 64 64) ≡ 175 ∷ 6 ∷ 176 ∷ 152 ∷ 127 ∷ 255 ∷ 255 ∷ 248 ∷ []
+slice_of_64x64 : slice_payload (idr_header 0) (sites 64 64) ≡ 175 ∷ 6 ∷ 176 ∷ 152 ∷ 127 ∷ 255 ∷ 255 ∷ 248 ∷ []
 unfolding first_bytes log2_of lps_width next_variable first_variables shift_of sites blank_node sao_bins bins_of_node predicted_bins luma_mode_bins candModeList transform_tree_bins quarters_bins transform_unit_bins truncated_unary_bins no_units no_levels look_picture column_of row_of address_of crosses is_outside
 slice_of_64x64 = refl
 
-slice_of_8x8 : slice_payload 0 (sites 8 8) ≡ 175 ∷ 6 ∷ 176 ∷ 152 ∷ 239 ∷ 255 ∷ 240 ∷ []
+slice_of_8x8 : slice_payload (idr_header 0) (sites 8 8) ≡ 175 ∷ 6 ∷ 176 ∷ 152 ∷ 239 ∷ 255 ∷ 240 ∷ []
 unfolding first_bytes log2_of lps_width next_variable first_variables shift_of sites blank_node sao_bins bins_of_node predicted_bins luma_mode_bins candModeList transform_tree_bins quarters_bins transform_unit_bins truncated_unary_bins no_units no_levels look_picture column_of row_of address_of crosses is_outside
 slice_of_8x8 = refl
 
-slice_of_16x8 : slice_payload 0 (sites 16 8) ≡
+slice_of_16x8 : slice_payload (idr_header 0) (sites 16 8) ≡
     175 ∷ 6 ∷ 176 ∷ 152 ∷ 239 ∷ 255 ∷ 178 ∷ 255 ∷ 240 ∷ []
 unfolding first_bytes log2_of lps_width next_variable first_variables shift_of sites blank_node sao_bins bins_of_node predicted_bins luma_mode_bins candModeList transform_tree_bins quarters_bins transform_unit_bins truncated_unary_bins no_units no_levels look_picture column_of row_of address_of crosses is_outside
 slice_of_16x8 = refl
 
-slice_of_72x56 : slice_payload 0 (sites 72 56) ≡
+slice_of_72x56 : slice_payload (idr_header 0) (sites 72 56) ≡
     175 ∷ 6 ∷ 176 ∷ 152 ∷ 127 ∷ 255 ∷ 101 ∷ 254 ∷ 211 ∷ 249 ∷ 191 ∷ 188 ∷ 120 ∷ 189 ∷ 125 ∷ 33 ∷
     225 ∷ 130 ∷ 223 ∷ 222 ∷ 112 ∷ 120 ∷ 116 ∷ 80 ∷ 12 ∷ 103 ∷ 71 ∷ []
 unfolding first_bytes log2_of lps_width next_variable first_variables shift_of sites blank_node sao_bins bins_of_node predicted_bins luma_mode_bins candModeList transform_tree_bins quarters_bins transform_unit_bins truncated_unary_bins no_units no_levels look_picture column_of row_of address_of crosses is_outside
 slice_of_72x56 = refl
 
-slice_of_136x72 : slice_payload 0 (sites 136 72) ≡
+slice_of_136x72 : slice_payload (idr_header 0) (sites 136 72) ≡
     175 ∷ 6 ∷ 176 ∷ 152 ∷ 127 ∷ 255 ∷ 250 ∷ 188 ∷ 191 ∷ 236 ∷ 69 ∷ 254 ∷ 223 ∷ 242 ∷ 30 ∷ 173 ∷
     175 ∷ 164 ∷ 67 ∷ 74 ∷ 243 ∷ 143 ∷ 239 ∷ 118 ∷ 252 ∷ 40 ∷ 92 ∷ 153 ∷ 23 ∷ 86 ∷ 167 ∷ 191 ∷ 76 ∷
     []
 unfolding first_bytes log2_of lps_width next_variable first_variables shift_of sites blank_node sao_bins bins_of_node predicted_bins luma_mode_bins candModeList transform_tree_bins quarters_bins transform_unit_bins truncated_unary_bins no_units no_levels look_picture column_of row_of address_of crosses is_outside
 slice_of_136x72 = refl
 
-slice_of_256x192 : slice_payload 0 (sites 256 192) ≡
+slice_of_256x192 : slice_payload (idr_header 0) (sites 256 192) ≡
     175 ∷ 6 ∷ 176 ∷ 152 ∷ 127 ∷ 255 ∷ 250 ∷ 188 ∷ 191 ∷ 236 ∷ 9 ∷ 247 ∷ 159 ∷ 16 ∷ 26 ∷ 93 ∷ 227 ∷
     115 ∷ 202 ∷ 155 ∷ 22 ∷ 135 ∷ 133 ∷ 138 ∷ []
 unfolding first_bytes log2_of lps_width next_variable first_variables shift_of sites blank_node sao_bins bins_of_node predicted_bins luma_mode_bins candModeList transform_tree_bins quarters_bins transform_unit_bins truncated_unary_bins no_units no_levels look_picture column_of row_of address_of crosses is_outside
 slice_of_256x192 = refl
 
-slice_of_64x136 : slice_payload 0 (sites 64 136) ≡
+slice_of_64x136 : slice_payload (idr_header 0) (sites 64 136) ≡
     175 ∷ 6 ∷ 176 ∷ 152 ∷ 127 ∷ 255 ∷ 250 ∷ 188 ∷ 191 ∷ 236 ∷ 69 ∷ 254 ∷ 223 ∷ 242 ∷ 30 ∷ 173 ∷
     175 ∷ 164 ∷ 67 ∷ 75 ∷ 179 ∷ []
 unfolding first_bytes log2_of lps_width next_variable first_variables shift_of sites blank_node sao_bins bins_of_node predicted_bins luma_mode_bins candModeList transform_tree_bins quarters_bins transform_unit_bins truncated_unary_bins no_units no_levels look_picture column_of row_of address_of crosses is_outside

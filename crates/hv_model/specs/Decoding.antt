@@ -14,7 +14,7 @@ use Rattle.hv_model.specs.Reconstruction.{DecodedPicture, reconstructed}
 -- ---- reference pictures (8.3.2, 8.3.4)
 
 abbrev pub has_count : ℕ → DecodedPicture → Bool
-has_count count picture = nat_eq picture.PicOrderCntVal count
+has_count count picture = nat_eq count picture.PicOrderCntVal
 
 abbrev pub found_then :
     List DecodedPicture → Option (List DecodedPicture) → Option (List DecodedPicture)

@@ -1,27 +1,24 @@
 -- The one-thread encoder: the bytes that are written for a list of pictures, and the pictures that
--- a decoder shows. So far each picture is a group of its own, at effort 0.
-use Rattle.std.specs.Prelude.{ℕ, List, [], ◌∷◌, ◌++◌, map, flat_map}
-use Rattle.hv_types.specs.declared.bins.SliceKind.TheVariants.{I}
+-- a decoder shows. So far at effort 0, which chooses nothing.
+use Rattle.std.specs.Prelude.{ℕ, zero, suc, ◌-◌, List, [], ◌∷◌, ◌++◌, length, map, flat_map, take, drop}
 use Rattle.hv_types.specs.declared.settings.Settings.{Settings}
 use Rattle.hv_types.specs.declared.settings.Emit.{Emit}
 use Rattle.hv_types.specs.declared.settings.Emit.TheVariants.{Stream, Recon}
 use Rattle.hv_types.specs.Configuration.{padded_width, padded_height}
 use Rattle.hv_types.specs.declared.picture.Picture.{Picture}
 use Rattle.hv_types.specs.Video.{raw, crop}
-use Rattle.hv_stream_model.specs.Bits.{bytes_of}
-use Rattle.hv_stream_model.specs.Fields.{bits_of_fields, aligned}
-use Rattle.hv_stream_model.specs.Units.{unit_of_payload}
-use Rattle.hv_stream_model.specs.Headers.{parameter_sets, idr_slice}
-use Rattle.hv_group_model.specs.Structure.{qp_at}
+use Rattle.hv_stream_model.specs.Units.{unit_bytes}
+use Rattle.hv_stream_model.specs.Headers.{SliceHeader, parameter_sets}
+use Rattle.hv_stream_model.specs.HeaderLaws.{header_of}
+use Rattle.hv_group_model.specs.Structure.{qp_at, coding}
 use Rattle.hv_unit_model.specs.Trees.{CodingTreeUnit}
 use Rattle.hv_unit_model.specs.Sites.{Site, sites}
 use Rattle.hv_unit_model.specs.Validity.{is_empty}
-use Rattle.hv_unit_model.specs.Bins.{slice_bins}
-use Rattle.hv_entropy_model.specs.CodeWord.{word}
 use Rattle.hv_model.specs.ModeDecision.{no_offsets, best}
 use Rattle.hv_model.specs.Reconstruction.{grey, filtered_picture}
+use Rattle.hv_model.specs.Slices.{idr_header, word_behind, payload_of_slice, unit_of_slice}
 
--- ---- a picture
+-- ---- a picture of a group
 
 -- the coding tree units of these blocks, of which the last one ends the slice
 abbrev pub coded_units : List Site → List CodingTreeUnit
@@ -31,42 +28,80 @@ coded_units (site ∷ sites) =
     coded_units sites
 
 -- the slice data of a picture with these blocks
-abbrev pub slice_data_of : ℕ → List Site → List ℕ
-slice_data_of qp sites = word I qp (slice_bins I 0 sites (coded_units sites))
+abbrev pub slice_data_of : SliceHeader → List Site → List ℕ
+slice_data_of header sites = word_behind header sites (coded_units sites)
 
--- the slice of an IDR picture: its header, a byte_alignment, and the code word with zeros to the
--- byte
-abbrev pub slice_payload : ℕ → List Site → List ℕ
-slice_payload qp sites =
-    bytes_of (aligned (bits_of_fields (idr_slice qp)) ++ slice_data_of qp sites)
+-- its slice: the header, a byte_alignment, and the code word with zeros to the byte
+abbrev pub slice_payload : SliceHeader → List Site → List ℕ
+slice_payload header sites = payload_of_slice header sites (coded_units sites)
 
 -- the blocks of a padded picture
 abbrev pub picture_sites : Settings → List Site
 picture_sites cfg = sites (padded_width cfg) (padded_height cfg)
 
--- an IDR picture has depth 0
-abbrev pub picture_unit : Settings → Picture → List ℕ
-picture_unit cfg picture = unit_of_payload 20 (slice_payload (qp_at cfg.qp 0) (picture_sites cfg))
+-- the slice header of a picture of a group of so many: the first one is an IDR picture of depth 0,
+-- the others are P pictures
+abbrev pub header_in : Settings → ℕ → ℕ → SliceHeader
+header_in cfg count zero = idr_header (qp_at cfg.qp 0)
+header_in cfg count (suc k) = header_of count cfg.levels cfg.qp (suc k)
 
--- its reconstruction before it is cropped: where nothing is chosen, every sample is the middle one
--- before the in-loop filters
-abbrev pub recon_picture : Settings → Picture → Picture
-recon_picture cfg picture =
+-- the unit of a picture of a group of so many
+abbrev pub picture_unit : Settings → ℕ → ℕ → List ℕ
+picture_unit cfg count picture =
+    unit_bytes
+    (unit_of_slice (header_in cfg count picture) (picture_sites cfg)
+    (coded_units (picture_sites cfg)))
+
+-- the reconstruction of a picture before it is cropped: where nothing is chosen, every sample is the
+-- middle one before the in-loop filters
+abbrev pub recon_picture : Settings → Picture
+recon_picture cfg =
     filtered_picture (coded_units (picture_sites cfg))
     (grey (padded_width cfg) (padded_height cfg))
 
+-- ---- a group
+
+pub record EncodedGroup : Type 0 where
+  -- in coding order
+  pub units : List (List ℕ)
+  -- the reconstructed pictures, cropped, in output order
+  pub shown : List Picture
+
+-- of pictures in output order
+abbrev pub encode_group : Settings → List Picture → EncodedGroup
+encode_group cfg pictures = record {
+  units =
+      map (λ coded. picture_unit cfg (length pictures) coded.picture)
+      (coding (length pictures) cfg.levels);
+  shown = map (λ picture. crop (recon_picture cfg) cfg.width cfg.height) pictures;
+}
+
+-- the bytes of a group
+abbrev pub group_bytes : Settings → List Picture → List ℕ
+group_bytes cfg pictures = flat_map (λ unit. unit) (encode_group cfg pictures).units
+
 -- ---- a video
+
+-- at most so many groups: a picture and those behind it that its group has room for, and so on
+abbrev pub groups_within : ℕ → ℕ → List Picture → List (List Picture)
+groups_within most size [] = []
+groups_within zero size (picture ∷ pictures) = []
+groups_within (suc most) size (picture ∷ pictures) =
+    (picture ∷ take (size - 1) pictures) ∷ groups_within most size (drop (size - 1) pictures)
+
+-- its groups, of which the last one may have fewer pictures
+abbrev pub groups_of : Settings → List Picture → List (List Picture)
+groups_of cfg pictures = groups_within (length pictures) cfg.group pictures
 
 -- the byte stream: nothing for no pictures
 abbrev pub encode_of : Settings → List Picture → List ℕ
 encode_of cfg [] = []
 encode_of cfg (picture ∷ pictures) =
-    parameter_sets cfg ++ flat_map (picture_unit cfg) (picture ∷ pictures)
+    parameter_sets cfg ++ flat_map (group_bytes cfg) (groups_of cfg (picture ∷ pictures))
 
 -- the reconstructed pictures, cropped, in output order
 abbrev pub recon_of : Settings → List Picture → List Picture
-recon_of cfg pictures =
-    map (λ picture. crop (recon_picture cfg picture) cfg.width cfg.height) pictures
+recon_of cfg pictures = flat_map (λ group. (encode_group cfg group).shown) (groups_of cfg pictures)
 
 abbrev pub output_as : Emit → Settings → List Picture → List ℕ
 output_as Stream cfg pictures = encode_of cfg pictures

@@ -10,4 +10,5 @@ pub mod Built
 pub mod SliceDataLaws
 pub mod PayloadLaws
 pub mod EncodingLaws
+pub mod ReferenceLaws
 pub mod RoundTrip

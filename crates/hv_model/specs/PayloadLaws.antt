@@ -13,7 +13,7 @@ use Rattle.hv_unit_model.specs.Trees.{CodingTreeUnit}
 use Rattle.hv_unit_model.specs.Sites.{Site}
 use Rattle.hv_unit_model.specs.Validity.{AreValid}
 use Rattle.hv_unit_model.specs.Bins.{slice_bins}
-use Rattle.hv_model.specs.Slices.{idr_header, nal_unit_type_of, header_fields}
+use Rattle.hv_model.specs.Slices.{idr_header, payload_of_slice, unit_of_slice}
 use Rattle.hv_model.specs.Parsing.{parameters, behind_alignment, slice_data, sites_of, picture_of_unit}
 
 -- a parameter set (7.3.2), from its fields and their trailing bits
@@ -41,33 +41,12 @@ SliceDataIsRead =
     (word slice_type qp (slice_bins slice_type references sites units) ++ replicate zeros 0) ≡
     Some units
 
--- the code word of slice data behind this header
-abbrev pub word_behind : SliceHeader → List Site → List CodingTreeUnit → List ℕ
-word_behind header sites units =
-    word header.slice_type header.qp
-    (slice_bins header.slice_type (used_count header.references) sites units)
-
--- the payload of a slice of these blocks
-abbrev pub payload_of_slice : SliceHeader → List Site → List CodingTreeUnit → List ℕ
-payload_of_slice header sites units =
-    bytes_of
-    (aligned (bits_of_fields (header_fields header)) ++ word_behind header sites units)
-
--- and its unit, of the base layer and the lowest sub-layer
-abbrev pub unit_of_slice : SliceHeader → List Site → List CodingTreeUnit → NalUnit
-unit_of_slice header sites units = record {
-  nal_unit_type = nal_unit_type_of header;
-  nuh_layer_id = 0;
-  TemporalId = 0;
-  payload = payload_of_slice header sites units;
-}
-
 -- the slice headers of this profile, by the number of temporal levels
 pub data IsHeader (levels : ℕ) : SliceHeader → Type 0 where
   of_idr : (qp : ℕ) → qp ≤ 51 → IsHeader levels (idr_header qp)
   of_other : (header : SliceHeader) → IsAllowedSlice levels header → IsHeader levels header
 
--- the coded picture of such a unit
+-- the coded picture of a unit with such a header
 abbrev pub SlicesAreRead : Type 0
 SlicesAreRead =
     (levels : ℕ) (size : Size) (header : SliceHeader) (units : List CodingTreeUnit) →

@@ -1,7 +1,6 @@
 -- How slice data ends, which contexts it asks for, and what the encoder codes in it.
 use Rattle.std.specs.Prelude.{◌≢◌, ℕ, List, []}
 use Rattle.hv_types.specs.declared.bins.SliceKind.{SliceKind}
-use Rattle.hv_types.specs.declared.bins.SliceKind.TheVariants.{I}
 use Rattle.hv_entropy_model.specs.CodeWord.{IsEnded, AllAskable}
 use Rattle.hv_unit_model.specs.Trees.{CodingTreeUnit}
 use Rattle.hv_unit_model.specs.Sites.{Site}
@@ -24,6 +23,8 @@ SliceDataContextsAreValid =
     AreValid slice_type references sites units →
     AllAskable slice_type (slice_bins slice_type references sites units)
 
--- what the encoder codes in any blocks may be coded there in an I slice
+-- what the encoder codes in any blocks may be coded there, in slices of both kinds
 abbrev pub CodedUnitsAreValid : Type 0
-CodedUnitsAreValid = (sites : List Site) → AreValid I 0 sites (coded_units sites)
+CodedUnitsAreValid =
+    (slice_type : SliceKind) (references : ℕ) (sites : List Site) →
+    AreValid slice_type references sites (coded_units sites)

@@ -1,11 +1,16 @@
 -- The slice of a picture, IDR picture or not: its header by one record, the pictures that its
--- reference picture set names (8.3.2), and list 0 (8.3.4).
+-- reference picture set names (8.3.2), list 0 (8.3.4), and its unit.
 use Rattle.std.specs.Prelude.{ℕ, ◌+◌, ◌-◌, Bool, cond, nat_eq, List, [], ◌++◌, map, filter}
 use Rattle.hv_types.specs.declared.bins.SliceKind.TheVariants.{I}
 use Rattle.hv_group_model.specs.Structure.{Kept, ReferenceSet}
-use Rattle.hv_stream_model.specs.Units.{TRAIL_R, IDR_N_LP}
-use Rattle.hv_stream_model.specs.Fields.{Field}
-use Rattle.hv_stream_model.specs.Headers.{SliceHeader, idr_slice, slice}
+use Rattle.hv_stream_model.specs.Bits.{bytes_of}
+use Rattle.hv_stream_model.specs.Units.{NalUnit, TRAIL_R, IDR_N_LP}
+use Rattle.hv_stream_model.specs.Fields.{Field, bits_of_fields, aligned}
+use Rattle.hv_stream_model.specs.Headers.{SliceHeader, used_count, idr_slice, slice}
+use Rattle.hv_entropy_model.specs.CodeWord.{word}
+use Rattle.hv_unit_model.specs.Trees.{CodingTreeUnit}
+use Rattle.hv_unit_model.specs.Sites.{Site}
+use Rattle.hv_unit_model.specs.Bins.{slice_bins}
 
 -- ---- headers
 
@@ -62,3 +67,26 @@ abbrev pub list_0 : SliceHeader → List ℕ
 list_0 header =
     counts_before (count_of header) (used header.references.before) ++
     counts_after (count_of header) (used header.references.after)
+
+-- ---- the unit
+
+-- the code word of slice data behind this header
+abbrev pub word_behind : SliceHeader → List Site → List CodingTreeUnit → List ℕ
+word_behind header sites units =
+    word header.slice_type header.qp
+    (slice_bins header.slice_type (used_count header.references) sites units)
+
+-- the payload of a slice of these blocks
+abbrev pub payload_of_slice : SliceHeader → List Site → List CodingTreeUnit → List ℕ
+payload_of_slice header sites units =
+    bytes_of
+    (aligned (bits_of_fields (header_fields header)) ++ word_behind header sites units)
+
+-- its unit, of the base layer and the lowest sub-layer
+abbrev pub unit_of_slice : SliceHeader → List Site → List CodingTreeUnit → NalUnit
+unit_of_slice header sites units = record {
+  nal_unit_type = nal_unit_type_of header;
+  nuh_layer_id = 0;
+  TemporalId = 0;
+  payload = payload_of_slice header sites units;
+}

@@ -3,12 +3,20 @@
 ghost use Rattle.hv_model.specs.RoundTrip.{DecodingGivesReconstruction, EachIsReconstructed};
 ghost use Rattle.hv_model.specs.Built.{BuiltIsDecided};
 
-/// With the settings built, which are those of pictures of any valid size, each a group of its own,
-/// at effort 0, what the one-thread encoder writes for pictures decodes (clauses 7 to 9 and
-/// Annex B) to their reconstructed pictures.
+use hv_stream_model::{
+    other_slices_are_codable, other_slices_are_read, slices_of_groups_are_allowed,
+};
+
+/// With valid settings at effort 0, what the one-thread encoder writes for pictures of any valid
+/// size, in groups of any number of pictures and levels, decodes (clauses 7 to 9 and Annex B) to
+/// their reconstructed pictures, in the order of the input.
 pub fn decoding_gives_reconstruction()
     ensures { DecodingGivesReconstruction }
-{}
+{
+    other_slices_are_read();
+    other_slices_are_codable();
+    slices_of_groups_are_allowed();
+}
 
 /// There are as many reconstructed pictures as pictures.
 pub fn each_is_reconstructed()

@@ -14,8 +14,8 @@ pub fn slice_data_contexts_are_valid()
     ensures { SliceDataContextsAreValid }
 {}
 
-/// The coding tree units that the encoder chooses for any coding tree blocks may be coded there in
-/// an I slice: each block has one, and the last one, and no other, ends the slice.
+/// The coding tree units that the encoder chooses for any coding tree blocks may be coded there, in
+/// slices of both kinds: each block has one, and the last one, and no other, ends the slice.
 pub fn coded_units_are_valid()
     ensures { CodedUnitsAreValid }
 {}

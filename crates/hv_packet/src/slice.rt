@@ -8,6 +8,7 @@ ghost use Rattle.hv_stream_model.specs.Units.{last_of};
 ghost use Rattle.hv_stream_model.specs.Headers.{idr_slice as idr_slice_of};
 ghost use Rattle.hv_group_model.specs.Structure.{qp_at};
 ghost use Rattle.hv_unit_model.specs.Sites.{sites};
+ghost use Rattle.hv_model.specs.Slices.{idr_header};
 ghost use Rattle.hv_model.specs.Encoding.{picture_sites, slice_data_of};
 ghost use Rattle.hv_model.specs.Encoding.{slice_payload as slice_payload_of};
 ghost use Rattle.hv_packet.specs.BlankBins.{bin, part_bins, prediction_bins, luma_bins};
@@ -34,7 +35,7 @@ const CTB_SIZE: u8 = 3;
 /// (7.3.2.9): its header with a byte_alignment, and its data. `NoMemory` where a growth failed.
 pub fn slice_payload(alloc: Global, group: &Group) -> Result<Vec<u8>, NoMemory>
     ensures value { IfOk result (λ payload.
-        payload.items ≡ slice_payload_of (qp_at group.now.input.config.qp 0)
+        payload.items ≡ slice_payload_of (idr_header (qp_at group.now.input.config.qp 0))
         (picture_sites group.now.input.config)) }
     // as the payload of a unit has to (7.4.2)
     ensures ends { IfOk result (λ payload. last_of payload.items ≢ 0) }
@@ -57,7 +58,7 @@ fn slice_data(alloc: Global, qp: u8, width: u32, height: u32) -> Result<Vec<u8>,
     requires height_least { 8 ≤ height }
     requires height_most { height ≤ 2176 }
     ensures { IfOk result (λ bytes.
-        bytes.items ≡ bytes_of (slice_data_of qp (sites width height))) }
+        bytes.items ≡ bytes_of (slice_data_of (idr_header qp) (sites width height))) }
 {
     sites_are_there();
     coded_units_are_valid();

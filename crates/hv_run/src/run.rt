@@ -19,6 +19,7 @@ ghost use Rattle.hv_run.specs.Statuses.{status_of as status_of_error};
 
 use crate::report::{report_error, report_totals, report_words};
 use crate::status::Status;
+use hv_model::{decoding_gives_reconstruction, each_is_reconstructed};
 use hv_serial::{EncodeError, encode_video};
 use hv_types::{Config, Failed, Gate, Sink, Source, Words};
 use hv_words::{WordsError, config_of_words};
@@ -127,6 +128,8 @@ pub fn run_encode<S: Source, K: Sink, P: Sink, G: Gate, R: Threads + Wait + Sync
         ¬ Rises (P.faults report.old) (P.faults report.new) →
         IsDue cfg (length bytes) result }
 {
+    decoding_gives_reconstruction();
+    each_is_reconstructed();
     match config_of_words(alloc, words) {
         Ok(config) => encode_and_report(alloc, &config, source, out, report),
         Err(error) => {

@@ -85,18 +85,18 @@ taken_more p k bytes mid now h there left = record {
 }
 
 -- one picture more
-pub at_next : (cfg : Settings) (before mid now old midw new : Option (List ℕ)) (rb rm rn wb wm wn k n : ℕ) (t u : Totals) →
+pub at_next : (cfg : Settings) → cfg.group ≡ 1 → (before mid now old midw new : Option (List ℕ)) (rb rm rn wb wm wn k n : ℕ) (t u : Totals) →
     IsAt cfg (reading before mid rb rm) (writing old midw wb wm) k t → NextDone cfg (nat_eq k 0) n (reading mid now rm rn) (writing midw new wm wn) →
     u.pictures ≡ t.pictures + 1 → u.groups ≡ t.groups + 1 → u.bytes ≡ t.bytes + n →
     IsAt cfg (reading before now rb rn) (writing old new wb wn) (k + 1) u
-at_next cfg before mid now old midw new rb rm rn wb wm wn k n t u a d pictures groups bytes = record {
+at_next cfg one before mid now old midw new rb rm rn wb wm wn k n t u a d pictures groups bytes = record {
   read = λ b e.
       let h = a.read b e in
       let r = d.read (drop (k * picture_bytes cfg) b) h.left in
       taken_more (picture_bytes cfg) k b mid now h r.there r.left;
   wrote = λ w count.
       let s = snoc_of k w (omega (arith, count)) in
-      subst (λ (x : List ℕ). Grows old new x) (sym (stream_more cfg k w s))
+      subst (λ (x : List ℕ). Grows old new x) (sym (stream_more cfg one k w s))
       (Grows-more old midw new _ _ (a.wrote s.front s.count) (d.wrote.wrote s.last));
   pictures = omega (arith, pictures, a.pictures);
   groups = omega (arith, groups, a.groups);
@@ -107,7 +107,7 @@ at_next cfg before mid now old midw new rb rm rn wb wm wn k n t u a d pictures g
         bytes,
         a.bytes s.front s.count,
         d.wrote.count s.last,
-        ap length (stream_more cfg k w s),
+        ap length (stream_more cfg one k w s),
         length-append (encode_of cfg s.front) (bytes_of_picture cfg (nat_eq k 0) s.last),
       );
   fits = omega (arith, a.fits, bytes, d.wrote.fits);
@@ -266,7 +266,7 @@ at_write_fault cfg b emit before mid now old midw new rb rm rn wb wm wn k t a d 
       let w : List Picture = take (k + 1) v in
       let s = snoc_of k w (omega (arith, length-take-le (k + 1) v (omega (arith, number)))) in
       let whole : encode_of cfg s.front ++ bytes_of_picture cfg (nat_eq k 0) s.last ≡ output cfg w =
-      sym (stream_output cfg emit w ∙ stream_more cfg k w s) in
+      sym (stream_output cfg emit w ∙ stream_more cfg b.group k w s) in
       record {
         m = k + 1;
         groups = record { few = omega (arith, number); whole = inl (sym (whole_is cfg b.group (k + 1))) };

@@ -1,10 +1,10 @@
 -- How the encoding of a video ends, and each step of it.
-use Rattle.std.specs.Prelude.{◌≡◌, ℕ, ◌<◌, ◌≤◌, ◌^◌, Bool, true, false, List, [], ◌++◌, length, drop, Option, Some, None, Result, Ok, Err}
+use Rattle.std.specs.Prelude.{◌≡◌, ℕ, ◌<◌, ◌≤◌, ◌^◌, Bool, true, false, List, [], ◌∷◌, ◌++◌, length, drop, Option, Some, None, Result, Ok, Err}
 use Rattle.hv_types.specs.declared.settings.Settings.{Settings}
 use Rattle.hv_types.specs.Outside.{Rises}
 use Rattle.hv_types.specs.Configuration.{picture_bytes}
 use Rattle.hv_types.specs.declared.picture.Picture.{Picture}
-use Rattle.hv_model.specs.Encoding.{output, picture_unit}
+use Rattle.hv_model.specs.Encoding.{output, group_bytes}
 use Rattle.hv_stream_model.specs.Headers.{parameter_sets}
 use Rattle.hv_serial.specs.declared.encode.Totals.{Totals}
 use Rattle.hv_serial.specs.declared.encode.EncodeError.{EncodeError}
@@ -67,10 +67,10 @@ Ends cfg d w (Err TooLong) = EndsTooLong cfg d w
 
 -- ---- a picture of it
 
--- what is written of a picture: the parameter sets go out with the first one
+-- what is written of a picture, a group of its own: the parameter sets go out with the first one
 abbrev pub bytes_of_picture : Settings → Bool → Picture → List ℕ
-bytes_of_picture cfg true picture = parameter_sets cfg ++ picture_unit cfg picture
-bytes_of_picture cfg false picture = picture_unit cfg picture
+bytes_of_picture cfg true picture = parameter_sets cfg ++ group_bytes cfg (picture ∷ [])
+bytes_of_picture cfg false picture = group_bytes cfg (picture ∷ [])
 
 -- whatever the samples of the picture are
 pub record PutsPicture (cfg : Settings) (first : Bool) (n : ℕ) (w : Put) : Type 0 where

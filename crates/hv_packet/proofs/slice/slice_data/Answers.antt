@@ -16,4 +16,4 @@ returns c =
     (rw same (c.put_slice_data.ensures I c.args.qp [] c.new-encoder.ensures))
     (c.slice_data_ends.ensures I 0 places (coded_units places)
     (c.sites_are_there.ensures c.args.width c.args.height (omega arith) (omega arith))
-    (c.coded_units_are_valid.ensures places))
+    (c.coded_units_are_valid.ensures I 0 places))

@@ -26,12 +26,12 @@ returns c =
     ap₂ sites
     (c.padded_width.ensures.value ∙ ap padded_width same)
     (c.padded_height.ensures.value ∙ ap padded_height same) in
-    let coded : c.in_ok-data.data.items ≡ bytes_of (slice_data_of qp places) =
-    c.in_ok-data.ensures ∙ ap₂ (λ q p. bytes_of (slice_data_of q p)) quantiser blocks in
-    let value : c.extend_from_slice.new.self.items ≡ slice_payload qp places =
+    let coded : c.in_ok-data.data.items ≡ bytes_of (slice_data_of (idr_header qp) places) =
+    c.in_ok-data.ensures ∙ ap₂ (λ q p. bytes_of (slice_data_of (idr_header q) p)) quantiser blocks in
+    let value : c.extend_from_slice.new.self.items ≡ slice_payload (idr_header qp) places =
     c.in_ok-extend_from_slice.ensures.items ∙
     ap₂ (λ (a b : List ℕ). a ++ b) c.in_ok-payload.ensures (c.deref.ensures.value ∙ coded) ∙
-    sym (c.bytes_append.ensures (aligned fields) (slice_data_of qp places)
+    sym (c.bytes_append.ensures (aligned fields) (slice_data_of (idr_header qp) places)
     (c.aligned_bits_are_whole.ensures fields)) in
     record {
       value = value;

@@ -1,6 +1,5 @@
 -- The clauses of a call that concluded, for the settings that the words ask for.
 use Rattle.std.proofs.Common.{refl, sym, ◌∙◌}
-use Rattle.hv_model.proofs.RoundTripLemmas.{decoding_gives}
 use Rattle.hv_run.specs.declared.status.Status.TheVariants.{Ok, ReadFault, ShortPicture, WriteFault, NoMemory, TooLong, ReportFault}
 use Rattle.hv_serial.specs.Transfers.{drawn, put}
 use Rattle.hv_serial.proofs.ProgressLemmas.{start_no_memory}
@@ -43,7 +42,9 @@ returns-in-Ok-clause-words_only g c is =
     absurd (words_never c.in-Ok.config _ _ _ c.encode_and_report.result c.encode_and_report.ensures is)
 
 pub returns-in-Ok-clause-decoded : goal.returns-in-Ok-clause-decoded
-returns-in-Ok-clause-decoded g c cfg v a = decoding_gives cfg v (accepted_built _ cfg a)
+returns-in-Ok-clause-decoded g c cfg v a =
+    let built = accepted_built _ cfg a in
+    c.decoding_gives_reconstruction.ensures cfg v built.valid built.effort
 
 pub returns-in-Ok-clause-read_fault : goal.returns-in-Ok-clause-read_fault
 returns-in-Ok-clause-read_fault g c is =
@@ -103,7 +104,9 @@ returns-in-Ok-clause-complete g c cfg bytes a told no_read no_write no_report =
 -- ---- words that give no settings
 
 pub returns-then-is_want_of_memory-clause-decoded : goal.returns-then-is_want_of_memory-clause-decoded
-returns-then-is_want_of_memory-clause-decoded g c cfg v a = decoding_gives cfg v (accepted_built _ cfg a)
+returns-then-is_want_of_memory-clause-decoded g c cfg v a =
+    let built = accepted_built _ cfg a in
+    c.decoding_gives_reconstruction.ensures cfg v built.valid built.effort
 
 pub returns-then-is_want_of_memory-clause-some_written : goal.returns-then-is_want_of_memory-clause-some_written
 returns-then-is_want_of_memory-clause-some_written g c cfg bytes left a told told_left is =
@@ -116,7 +119,9 @@ returns-then-is_want_of_memory-clause-other_report g c line is =
     no_memory_told _ c.in-Err.error line (sym c.is_want_of_memory.ensures ∙ c.if-is_want_of_memory.true) is c.report_words.ensures
 
 pub returns-clause-decoded : goal.returns-clause-decoded
-returns-clause-decoded g c cfg v a = decoding_gives cfg v (accepted_built _ cfg a)
+returns-clause-decoded g c cfg v a =
+    let built = accepted_built _ cfg a in
+    c.decoding_gives_reconstruction.ensures cfg v built.valid built.effort
 
 pub returns-clause-words_only : goal.returns-clause-words_only
 returns-clause-words_only g c is =

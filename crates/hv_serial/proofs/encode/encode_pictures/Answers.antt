@@ -33,7 +33,7 @@ returns-in-Err g c =
 pub loop-number-preserved : goal.loop-number-preserved
 loop-number-preserved g c =
     let done = next_is _ _ _ _ _ (Ok (Some c.in-Ok-Some.bytes)) (c.in-Ok-Some.is ∙ ap Ok c.in-Ok-Some.field-0-is) c.encode_next.ensures in (
-      at_next _ _ _ _ _ _ _ _ _ _ _ _ _ c.loop-number.number c.in-Ok-Some.bytes _ _ c.loop-number.invariant.0 done
+      at_next _ c.requires.built.group _ _ _ _ _ _ _ _ _ _ _ _ c.loop-number.number c.in-Ok-Some.bytes _ _ c.loop-number.invariant.0 done
           c.one_more-totals.ensures.pictures c.one_more-totals.ensures.groups c.one_more-totals.ensures.bytes,
       c.loop-number.invariant.1,
     )

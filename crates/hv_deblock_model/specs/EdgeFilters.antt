@@ -132,7 +132,7 @@ luma_edge qp bS first last line =
 abbrev pub chroma_step : Line → ℤ
 chroma_step line =
     int_shr
-    (pos 4 *ℤ (pos line.q.s0 -ℤ pos line.p.s0) +ℤ pos line.p.s1 -ℤ pos line.q.s1 +ℤ pos 4)
+    (pos 4 *ℤ (pos line.q.s0 -ℤ pos line.p.s0) +ℤ (pos line.p.s1 -ℤ pos line.q.s1) +ℤ pos 4)
     3
 
 -- with another first sample

@@ -1,3 +1,5 @@
+mod FilledLemmas
 mod LineLemmas
+mod SegmentLemmas
 mod StepLemmas
 mod ThresholdLemmas

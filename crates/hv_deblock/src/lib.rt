@@ -2,13 +2,19 @@
 #![tactic(auto)]
 
 mod chroma;
+mod component;
 mod decisions;
+mod direction;
 mod luma;
+mod segment;
+mod squares;
 mod steps;
 mod strengths;
 mod thresholds;
+mod window;
 
 pub use chroma::chroma_line;
 pub use luma::luma_line;
+pub use squares::CodedSquares;
 pub use strengths::{is_transform_edge, strength};
 pub use thresholds::{beta, tc};

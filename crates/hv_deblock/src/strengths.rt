@@ -48,9 +48,8 @@ pub fn strength(p: SquareCoding, q: SquareCoding) -> u8
 }
 
 /// Whether a transform block begins at this column, or row, of squares of 8x8 luma samples of the
-/// picture, in a coding unit of this depth, 0 to 3.
+/// picture, in a coding unit of this depth, which is 0 to 3.
 pub fn is_transform_edge(place: u32, depth: u8) -> bool
-    requires { depth ≤ 3 }
     ensures { result ≡ is_transform_edge place depth }
 {
     match depth {

@@ -1,0 +1,36 @@
+-- What the steps of a pass leave: lines, segments of four lines, and edges.
+use Rattle.std.specs.Prelude.{ℕ, ◌+◌, ◌*◌, ◌/◌, ◌%◌}
+use Rattle.hv_deblock_model.specs.declared.line.Line.{Line}
+use Rattle.hv_deblock_model.specs.EdgeStrength.{Squares, edge_strength}
+use Rattle.hv_deblock_model.specs.EdgeFilters.{luma_edge, chroma_edge}
+use Rattle.hv_deblock_model.specs.Deblocking.{Samples, EdgeFilter, line_at, line_sample, luma_filter, chroma_filter}
+use Rattle.hv_deblock.specs.declared.component.Component.{Component}
+use Rattle.hv_deblock.specs.declared.component.Component.TheVariants.{Luma, Chroma}
+
+-- a line of an edge of this strength
+abbrev pub edge_line : Component → ℕ → ℕ → Line → Line → Line → Line
+edge_line Luma qp bS first last line = luma_edge qp bS first last line
+edge_line Chroma qp bS first last line = chroma_edge qp bS line
+
+-- the new sample in column x of row y, of the four rows from `top` on across edge k
+abbrev pub segment_sample : Component → ℕ → ℕ → ℕ → ℕ → Samples → Samples
+segment_sample component qp bS k top samples x y =
+    line_sample
+    (edge_line component qp bS (line_at samples k top) (line_at samples k (top + 3))
+    (line_at samples k y))
+    ((x + 4) % 8)
+
+-- the filter of all edges of a component
+abbrev pub filter_of : Component → ℕ → Squares → EdgeFilter
+filter_of Luma qp squares = luma_filter qp squares
+filter_of Chroma qp squares = chroma_filter qp squares
+
+-- the strength of four rows, those of number `four`, across edge k
+abbrev pub strength_of_four : Component → Squares → ℕ → ℕ → ℕ
+strength_of_four Luma squares k four = edge_strength squares k (four / 2)
+strength_of_four Chroma squares k four = edge_strength squares (2 * k) four
+
+-- how many rows or columns of samples a square has
+abbrev pub scale : Component → ℕ
+scale Luma = 8
+scale Chroma = 4

@@ -1,5 +1,7 @@
 mod FilledLemmas
 mod LineLemmas
+mod PassLemmas
+mod PlaneLemmas
 mod SegmentLemmas
 mod StepLemmas
 mod ThresholdLemmas

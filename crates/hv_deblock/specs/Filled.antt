@@ -67,3 +67,11 @@ pub record IsFilled (direction : Direction) (left right top bottom : ℕ) (f : S
       samples_of direction new x y ≡ samples_of direction old x y
   pub below : (x y : ℕ) → bottom ≤ y → x < columns_of direction old → y < rows_of direction old →
       samples_of direction new x y ≡ samples_of direction old x y
+
+-- a plane of the same sides, whose samples are f x y
+pub record IsTurnedInto (direction : Direction) (f : Samples) (old new : Plane) : Type 0 where
+  pub wide : new.width ≡ old.width
+  pub high : new.height ≡ old.height
+  pub whole : IsWhole new
+  pub samples : (x y : ℕ) → x < columns_of direction old → y < rows_of direction old →
+      samples_of direction new x y ≡ f x y

@@ -22,8 +22,8 @@ segment_sample component qp bS k top samples x y =
 
 -- the filter of all edges of a component
 abbrev pub filter_of : Component → ℕ → Squares → EdgeFilter
-filter_of Luma qp squares = luma_filter qp squares
-filter_of Chroma qp squares = chroma_filter qp squares
+filter_of Luma qp = luma_filter qp
+filter_of Chroma qp = chroma_filter qp
 
 -- the strength of four rows, those of number `four`, across edge k
 abbrev pub strength_of_four : Component → Squares → ℕ → ℕ → ℕ

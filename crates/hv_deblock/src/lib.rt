@@ -3,9 +3,11 @@
 
 mod chroma;
 mod component;
+mod deblocking;
 mod decisions;
 mod direction;
 mod luma;
+mod passes;
 mod segment;
 mod squares;
 mod steps;
@@ -14,6 +16,7 @@ mod thresholds;
 mod window;
 
 pub use chroma::chroma_line;
+pub use deblocking::deblock;
 pub use luma::luma_line;
 pub use squares::CodedSquares;
 pub use strengths::{is_transform_edge, strength};

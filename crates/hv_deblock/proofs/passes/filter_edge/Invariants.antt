@@ -1,0 +1,11 @@
+use Rattle.std.proofs.Common.{◌+◌, ◌-◌, ◌*◌}
+use Rattle.hv_deblock_model.specs.Deblocking.{pass}
+use Rattle.hv_deblock.specs.Filled.{columns_of, seen, samples_of, IsFilled}
+use Rattle.hv_deblock.specs.Passes.{filter_of}
+use Rattle.hv_deblock.proofs.passes.filter_edge.Given as goal
+
+abbrev pub invariant-loop-four : goal.invariant-loop-four
+invariant-loop-four g l =
+    IsFilled l.direction (8 * l.k - 4) (8 * l.k + 4) 0 (4 * l.four)
+    (pass (columns_of l.direction l.fn.plane) (filter_of l.component l.qp (seen l.direction (g.S.CodedSquares.coding l.squares)))
+    (samples_of l.direction l.fn.plane)) l.fn.plane l.plane

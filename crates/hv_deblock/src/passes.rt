@@ -1,0 +1,102 @@
+//! A pass over a plane: all of its edges of one direction.
+
+ghost use Rattle.std.specs.Prelude.{◌≡◌, ◌+◌, ◌-◌, ◌*◌, ◌^◌, ◌%◌, ◌<◌, ◌≤◌};
+ghost use Rattle.hv_types.specs.Samples.{IsWhole};
+ghost use Rattle.hv_deblock_model.specs.Deblocking.{pass};
+ghost use Rattle.hv_deblock.specs.Filled.{columns_of, rows_of, seen, first_of, second_of, samples_of, IsFilled, IsTurnedInto};
+ghost use Rattle.hv_deblock.specs.Passes.{segment_sample, strength_of_four, filter_of, scale};
+
+use crate::component::Component;
+use crate::direction::Direction;
+use crate::segment::filter_segment;
+use crate::squares::{CodedSquares, strength_of_four};
+use hv_types::Plane;
+
+/// Filters the four rows of this number across edge number `k`, and leaves every other sample.
+fn filter_four<S: CodedSquares>(
+    plane: &mut Plane,
+    direction: Direction,
+    component: Component,
+    qp: u8,
+    squares: &S,
+    k: u32,
+    four: u32,
+)
+    requires whole { IsWhole plane.old }
+    requires qp { qp ≤ 51 }
+    requires columns { columns_of direction plane.old ≡
+        scale component * first_of direction (S.columns squares.now) (S.rows squares.now) }
+    requires rows { rows_of direction plane.old ≡
+        scale component * second_of direction (S.columns squares.now) (S.rows squares.now) }
+    requires least { 0 < k }
+    requires k { 8 * k + 3 < columns_of direction plane.old }
+    requires fits { 8 * k + 3 < 2 ^ 32 }
+    requires four { 4 * four + 3 < rows_of direction plane.old }
+    requires fits_down { 4 * four + 3 < 2 ^ 32 }
+    ensures { IsFilled direction (8 * k - 4) (8 * k + 4) (4 * four) (4 * four + 4)
+        (segment_sample component qp
+        (strength_of_four component (seen direction (S.coding squares.now)) k four)
+        k (4 * four) (samples_of direction plane.old))
+        plane.old plane.new }
+{
+    let strength = strength_of_four(squares, direction, component, k, four);
+    if strength > 0 {
+        filter_segment(plane, direction, component, qp, strength, k, 4 * four);
+    }
+}
+
+/// Filters all rows across edge number `k`, and leaves every other sample.
+fn filter_edge<S: CodedSquares>(
+    plane: &mut Plane,
+    direction: Direction,
+    component: Component,
+    qp: u8,
+    squares: &S,
+    k: u32,
+)
+    requires whole { IsWhole plane.old }
+    requires qp { qp ≤ 51 }
+    requires columns { columns_of direction plane.old ≡
+        scale component * first_of direction (S.columns squares.now) (S.rows squares.now) }
+    requires rows { rows_of direction plane.old ≡
+        scale component * second_of direction (S.columns squares.now) (S.rows squares.now) }
+    requires least { 0 < k }
+    requires k { 8 * k + 3 < columns_of direction plane.old }
+    requires fits { 8 * k + 3 < 2 ^ 32 }
+    ensures { IsFilled direction (8 * k - 4) (8 * k + 4) 0 (rows_of direction plane.old)
+        (pass (columns_of direction plane.old)
+        (filter_of component qp (seen direction (S.coding squares.now)))
+        (samples_of direction plane.old))
+        plane.old plane.new }
+{
+    let fours = direction.rows(plane) / 4;
+    for four in 0..fours {
+        filter_four(plane, direction, component, qp, squares, k, four);
+    }
+}
+
+/// Filters all edges of one direction in a plane of a component, by the quantiser of luma, 0 to 51.
+pub(crate) fn pass<S: CodedSquares>(
+    plane: &mut Plane,
+    direction: Direction,
+    component: Component,
+    qp: u8,
+    squares: &S,
+)
+    requires whole { IsWhole plane.old }
+    requires qp { qp ≤ 51 }
+    requires columns { columns_of direction plane.old ≡
+        scale component * first_of direction (S.columns squares.now) (S.rows squares.now) }
+    requires rows { rows_of direction plane.old ≡
+        scale component * second_of direction (S.columns squares.now) (S.rows squares.now) }
+    ensures { IsTurnedInto direction
+        (pass (columns_of direction plane.old)
+        (filter_of component qp (seen direction (S.coding squares.now)))
+        (samples_of direction plane.old))
+        plane.old plane.new }
+{
+    let edges = direction.columns(plane).div_ceil(8);
+    for k in 1..edges {
+        filter_edge(plane, direction, component, qp, squares, k);
+    }
+}

@@ -6,18 +6,18 @@ use hv_plan::Scan;
 
 /// Numbers by chance (a xorshift of 64 bits).
 #[derive(Clone, Copy)]
-pub(crate) struct Random {
+pub struct Random {
     state: u64,
 }
 
 impl Random {
     /// Numbers of a seed.
-    pub(crate) fn new(seed: u64) -> Random {
+    pub fn new(seed: u64) -> Random {
         Random { state: seed | 1 }
     }
 
-    /// The next number.
-    fn next(&mut self) -> u32 {
+    /// The next number, of 32 bits.
+    pub fn next(&mut self) -> u32 {
         let mut state = self.state;
         state ^= state << 13;
         state ^= state >> 7;
@@ -27,7 +27,7 @@ impl Random {
     }
 
     /// A number below a bound.
-    fn below(&mut self, bound: u32) -> u32
+    pub fn below(&mut self, bound: u32) -> u32
         requires { 0 < bound }
         ensures { result < bound }
     {
@@ -78,8 +78,20 @@ pub(crate) fn generate(random: &mut Random, number: u32) -> Generated {
         _ => Scan::Vertical,
     };
     let log2 = 2 + (number / 3 % 4) as u8;
+    Generated {
+        scan,
+        log2,
+        luma: number / 12 % 2 == 0,
+        levels: levels_of_kind(random, (number / 24 % 8) as u8, log2),
+    }
+}
+
+/// The levels of a block of side 2^log2, 4 to 32, by rows, and zeros behind them; they aren't all 0.
+/// There are eight kinds, from 0: few, small, one at a corner, large, by which the Rice parameter
+/// rises, of magnitude 1, islands, and noise.
+pub fn levels_of_kind(random: &mut Random, kind: u8, log2: u8) -> [i16; 1024] {
     let mut levels = [0i16; 1024];
-    match number / 24 % 8 {
+    match kind {
         0 => put_few(random, &mut levels, log2),
         1 => put_many(random, &mut levels, log2, 4),
         2 => put_corner(random, &mut levels, log2),
@@ -92,12 +104,7 @@ pub(crate) fn generate(random: &mut Random, number: u32) -> Generated {
     if !levels.iter().any(|level| *level != 0) {
         levels[0] = -1;
     }
-    Generated {
-        scan,
-        log2,
-        luma: number / 12 % 2 == 0,
-        levels,
-    }
+    levels
 }
 
 /// Puts a level at a place.

@@ -5,6 +5,7 @@
 ghost use Rattle.std.specs.Prelude.{◌≤◌, ◌<◌};
 
 use crate::alternatives::{Element, Tally};
+use crate::asking::{ask, ask_with, power, read_exp_golomb, read_fixed};
 use crate::reader::{BinReader, Question};
 use hv_plan::Scan;
 use hv_types::{Ctx, CtxTable};
@@ -96,37 +97,6 @@ pub fn read_levels(
         read_sub_block(reader, tally, shape, &mut reading, number, None)?;
     }
     Some(reading.levels)
-}
-
-/// A bin, which is counted.
-fn ask(reader: &mut BinReader<'_>, tally: &mut Tally, question: Question) -> Option<bool> {
-    tally.note_bin();
-    reader.answer(question)
-}
-
-/// A bin with a context.
-fn ask_with(
-    reader: &mut BinReader<'_>,
-    tally: &mut Tally,
-    table: CtxTable,
-    index: u8,
-) -> Option<bool> {
-    ask(reader, tally, Question::Bin(Ctx { table, index }))
-}
-
-/// A number of so many bypass bins, the most significant first (9.3.3.5 for suffixes).
-fn read_fixed(reader: &mut BinReader<'_>, tally: &mut Tally, length: u8) -> Option<u32> {
-    let mut value = 0u32;
-    for _ in 0..length {
-        let bit = ask(reader, tally, Question::Bypass)?;
-        value = (value << 1) | u32::from(bit);
-    }
-    Some(value)
-}
-
-/// 2 to the power of an exponent below 32.
-fn power(exponent: u8) -> u32 {
-    1u32.wrapping_shl(u32::from(exponent))
 }
 
 /// `scanIdx`
@@ -588,7 +558,8 @@ fn greatest_base(count: u8, has_greater2: bool) -> u32 {
     }
 }
 
-/// coeff_abs_level_remaining (9.3.3.11).
+/// coeff_abs_level_remaining (9.3.3.11). None after fourteen ones of an escape: a level would leave
+/// 16 bits.
 fn read_remaining(reader: &mut BinReader<'_>, tally: &mut Tally, rice: u8) -> Option<u32> {
     tally.note(Element::Rice, rice);
     for prefix in 0..4u8 {
@@ -600,22 +571,7 @@ fn read_remaining(reader: &mut BinReader<'_>, tally: &mut Tally, rice: u8) -> Op
         }
     }
     tally.note(Element::Remaining, 4);
-    let above = read_exp_golomb(reader, tally, rice.saturating_add(1))?;
+    let (ones, above) = read_exp_golomb(reader, tally, rice.saturating_add(1), 13)?;
+    tally.note(Element::Escape, ones);
     Some(power(rice).saturating_mul(4).saturating_add(above))
-}
-
-/// A number in Exp-Golomb of order `k` (9.3.3.5). None after fourteen ones: a level would leave 16
-/// bits.
-fn read_exp_golomb(reader: &mut BinReader<'_>, tally: &mut Tally, k: u8) -> Option<u32> {
-    let mut value = 0u32;
-    for ones in 0..14u8 {
-        let order = k.saturating_add(ones);
-        if !ask(reader, tally, Question::Bypass)? {
-            tally.note(Element::Escape, ones);
-            let suffix = read_fixed(reader, tally, order)?;
-            return Some(value.saturating_add(suffix));
-        }
-        value = value.saturating_add(power(order));
-    }
-    None
 }

@@ -7,8 +7,10 @@
 #![tactic(auto)]
 
 mod alternatives;
+mod asking;
 mod bits;
 mod contexts;
+mod counts;
 mod digits;
 mod escaping;
 mod fields;
@@ -24,8 +26,11 @@ mod tests;
 mod variables;
 
 pub use alternatives::{Element, Tally};
+pub use asking::{ask, ask_with, read_exp_golomb, read_fixed};
+pub use counts::{Counts, Row};
 pub use escaping::escape;
 pub use fields::{Field, bits_of_fields, field_bits};
+pub use generator::{Random, levels_of_kind};
 pub use interval::PlainInterval;
 pub use levels::read_levels;
 pub use reader::{BinReader, Question};

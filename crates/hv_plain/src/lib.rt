@@ -34,5 +34,5 @@ pub use generator::{Random, levels_of_kind};
 pub use interval::PlainInterval;
 pub use levels::read_levels;
 pub use reader::{BinReader, Question};
-pub use round_trip::{BLOCKS, read_back};
+pub use round_trip::{BLOCKS, put_levels, read_back};
 pub use variables::Variable;

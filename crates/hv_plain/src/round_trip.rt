@@ -8,6 +8,7 @@ use crate::generator::{Generated, Random, count_in, generate};
 use crate::levels::read_levels;
 use crate::reader::{BinReader, Question};
 use hv_cabac::Encoder;
+use hv_plan::Scan;
 use hv_residual::{any_significant, count_residual, put_residual};
 use hv_types::{BinSink, NoMemory, SliceKind};
 use std::alloc::Global;
@@ -79,20 +80,22 @@ fn written(alloc: Global, random: &mut Random, first: u32) -> Result<(Vec<u8>, u
     let mut bins = 0u32;
     for i in 0..BLOCKS {
         let block = generate(random, first.wrapping_add(i));
-        bins = bins.saturating_add(put_block(&mut encoder, &block));
+        let levels = &block.levels[..count_in(block.log2) as usize];
+        let count = put_levels(&mut encoder, levels, block.scan, block.log2, block.luma);
+        bins = bins.saturating_add(count);
     }
     encoder.terminate(true);
     Ok((encoder.finish()?, bins))
 }
 
-/// Puts a block into the encoder, where its levels aren't all 0. How many bins it has.
-fn put_block(encoder: &mut Encoder, block: &Generated) -> u32 {
-    let levels = &block.levels[..count_in(block.log2) as usize];
-    if !is_block(levels, block.log2) {
+/// Puts a transform block of side 2^log2 into the encoder, where these are its levels by rows, and
+/// they aren't all 0; else nothing. How many bins it has.
+pub fn put_levels(encoder: &mut Encoder, levels: &[i16], scan: Scan, log2: u8, luma: bool) -> u32 {
+    if !is_block(levels, log2) {
         return 0;
     }
-    put_residual(encoder, levels, block.scan, block.log2, block.luma);
-    count_residual(levels, block.scan, block.log2, block.luma)
+    put_residual(encoder, levels, scan, log2, luma);
+    count_residual(levels, scan, log2, luma)
 }
 
 /// Whether these are the levels of a block that isn't all 0.

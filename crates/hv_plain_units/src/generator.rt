@@ -12,7 +12,7 @@ use hv_types::{NoMemory, SliceKind};
 use std::alloc::Global;
 
 /// How often a node that may be one unit is split: in so many of 8 cases, by its size.
-const SPLITS: [u32; 4] = [0, 4, 5, 6];
+const SPLITS: [u32; 4] = [0, 4, 4, 5];
 
 /// The blocks of a picture, in raster order: coding quadtrees that the edge of the picture allows,
 /// in I slices of intra units alone, with levels and offsets in their ranges. `NoMemory` where there

@@ -41,18 +41,24 @@ pub fn read_slices_back(
     Ok(Some(all))
 }
 
-/// The slice of this number: its kind and references by turns, its sides by chance.
+/// The slice of this number: its kind and references by turns, its sides by chance; in half of the
+/// cases whole coding tree blocks.
 fn slice_of(random: &mut Random, number: u32) -> Slice {
     let (kind, references) = match number % 3 {
         0 => (SliceKind::I, 0),
         1 => (SliceKind::P, 1),
         _ => (SliceKind::P, 2),
     };
+    let (width, height) = if random.below(2) == 0 {
+        (64 * (1 + random.below(3)), 64 * (1 + random.below(2)))
+    } else {
+        (8 * (1 + random.below(24)), 8 * (1 + random.below(16)))
+    };
     Slice {
         kind,
         references,
-        width: 8 * (1 + random.below(24)),
-        height: 8 * (1 + random.below(16)),
+        width,
+        height,
     }
 }
 

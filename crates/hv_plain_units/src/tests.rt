@@ -5,8 +5,8 @@ use crate::{UnitTally, read_slices_back};
 use std::io::Print;
 use std::test::Fail;
 
-/// How many slices.
-const SLICES: u32 = 300;
+/// How many slices: some five seconds of one processor.
+const SLICES: u32 = 10_000;
 
 #[test]
 fn slices_are_read_back(rt: HostRuntime) -> Result<(), Fail> {

@@ -1,7 +1,7 @@
 //! The same program as `crates/hv_speed` in plain Rust: loops over rows of fixed length, which the
 //! compiler turns into vector instructions as well as it can, and the writers of bits and of NAL
 //! units as `crates/hv_bits` has them; intra prediction as `crates/hv_intra` has it, and transforms
-//! as `crates/hv_transform` has them. Levels are in a file of their own.
+//! as two passes of dot products. Levels are in a file of their own.
 mod cabac;
 mod hand;
 mod levels;
@@ -679,9 +679,11 @@ const fn turned<const N: usize>(rows: [[i8; N]; N]) -> [[i8; N]; N] {
     columns
 }
 
+static ROWS_4: [[i8; 4]; 4] = matrix();
 static ROWS_8: [[i8; 8]; 8] = matrix();
 static ROWS_16: [[i8; 16]; 16] = matrix();
 static ROWS_32: [[i8; 32]; 32] = matrix();
+static COLUMNS_4: [[i8; 4]; 4] = turned(matrix());
 static COLUMNS_8: [[i8; 8]; 8] = turned(matrix());
 static COLUMNS_16: [[i8; 16]; 16] = turned(matrix());
 static COLUMNS_32: [[i8; 32]; 32] = turned(matrix());
@@ -733,6 +735,7 @@ fn inverse_of<const N: usize>(
 #[inline(never)]
 fn inverse(coefficients: &[i32], log2: u8, out: &mut [i16]) {
     match log2 {
+        2 => inverse_of(&COLUMNS_4, coefficients, &mut [0; 16], &mut [0; 16], out),
         3 => inverse_of(&COLUMNS_8, coefficients, &mut [0; 64], &mut [0; 64], out),
         4 => inverse_of(&COLUMNS_16, coefficients, &mut [0; 256], &mut [0; 256], out),
         _ => inverse_of(
@@ -769,6 +772,7 @@ fn forward_of<const N: usize>(
 #[inline(never)]
 fn forward(residual: &[i16], log2: u8, out: &mut [i32]) {
     match log2 {
+        2 => forward_of(&ROWS_4, residual, log2, &mut [0; 16], out),
         3 => forward_of(&ROWS_8, residual, log2, &mut [0; 64], out),
         4 => forward_of(&ROWS_16, residual, log2, &mut [0; 256], out),
         _ => forward_of(&ROWS_32, residual, log2, &mut [0; 1024], out),
@@ -989,7 +993,9 @@ enum Transform {
 }
 
 // A transform: its name, which it is, the side, and how many columns and rows have levels.
-const TRANSFORM_KERNELS: [(&str, Transform, u8, usize); 14] = [
+const TRANSFORM_KERNELS: [(&str, Transform, u8, usize); 16] = [
+    ("inverse_4", Transform::Inverse, 2, 4),
+    ("forward_4", Transform::Forward, 2, 4),
     ("inverse_8", Transform::Inverse, 3, 8),
     ("inverse_16", Transform::Inverse, 4, 16),
     ("inverse_32", Transform::Inverse, 5, 32),
@@ -1053,9 +1059,9 @@ fn checksum_of_transforms(
             }
             let number = match transform {
                 Transform::Inverse | Transform::Quantise => {
-                    u32::from(new_residual[place].unsigned_abs())
+                    u32::from(new_residual.get(place).map_or(0, |number| number.unsigned_abs()))
                 }
-                _ => new_coefficients[place].unsigned_abs(),
+                _ => new_coefficients.get(place).map_or(0, |number| number.unsigned_abs()),
             };
             sum = sum.wrapping_add(u64::from(number) + u64::from(is_some));
         }

@@ -43,10 +43,10 @@ fn fill_upper_row(neighbours: Neighbours<'_>, value: u8, row: &mut [u8])
     ensures { IsRow (2 ^ neighbours.entry.side.log2)
         (λ x. edged value neighbours.entry.side.log2 neighbours.entry.line.now x 0) row.new }
 {
-    row[0] = corner(neighbours.left(1), value, neighbours.above(1));
-    for x in 1..neighbours.side.count() {
+    for x in 0..neighbours.side.count() {
         row[x] = edge(neighbours.above(x + 1), value);
     }
+    row[0] = corner(neighbours.left(1), value, neighbours.above(1));
 }
 
 /// A row below it.

@@ -97,6 +97,7 @@ impl Block {
 
 #[derive(Clone, Copy, PartialEq, Eq)]
 pub enum TransformKernel {
+    Inverse4,
     Inverse8,
     Inverse16,
     Inverse32,
@@ -104,6 +105,7 @@ pub enum TransformKernel {
     InverseCorner32,
     InverseFirst16,
     InverseFirst32,
+    Forward4,
     Forward8,
     Forward16,
     Forward32,
@@ -115,7 +117,8 @@ pub enum TransformKernel {
 
 impl TransformKernel {
     /// All kernels, in the order in which they are run.
-    pub const ALL: [TransformKernel; 14] = [
+    pub const ALL: [TransformKernel; 16] = [
+        TransformKernel::Inverse4,
         TransformKernel::Inverse8,
         TransformKernel::Inverse16,
         TransformKernel::Inverse32,
@@ -123,6 +126,7 @@ impl TransformKernel {
         TransformKernel::InverseCorner32,
         TransformKernel::InverseFirst16,
         TransformKernel::InverseFirst32,
+        TransformKernel::Forward4,
         TransformKernel::Forward8,
         TransformKernel::Forward16,
         TransformKernel::Forward32,
@@ -135,6 +139,7 @@ impl TransformKernel {
     /// The word by which a user asks for it.
     pub fn name(self) -> &'static str {
         match self {
+            TransformKernel::Inverse4 => "inverse_4",
             TransformKernel::Inverse8 => "inverse_8",
             TransformKernel::Inverse16 => "inverse_16",
             TransformKernel::Inverse32 => "inverse_32",
@@ -142,6 +147,7 @@ impl TransformKernel {
             TransformKernel::InverseCorner32 => "inverse_corner_32",
             TransformKernel::InverseFirst16 => "inverse_first_16",
             TransformKernel::InverseFirst32 => "inverse_first_32",
+            TransformKernel::Forward4 => "forward_4",
             TransformKernel::Forward8 => "forward_8",
             TransformKernel::Forward16 => "forward_16",
             TransformKernel::Forward32 => "forward_32",
@@ -165,6 +171,7 @@ impl TransformKernel {
     /// The block that the kernel goes over.
     pub fn block(self, alloc: Global) -> Result<Block, AllocError> {
         match self {
+            TransformKernel::Inverse4 | TransformKernel::Forward4 => Block::new(alloc, 2, 16, 4),
             TransformKernel::Inverse8
             | TransformKernel::Forward8
             | TransformKernel::Quantise8
@@ -189,7 +196,10 @@ impl TransformKernel {
         requires { place < 64 }
     {
         match self {
-            TransformKernel::Forward8 | TransformKernel::Forward16 | TransformKernel::Forward32 => {
+            TransformKernel::Forward4
+            | TransformKernel::Forward8
+            | TransformKernel::Forward16
+            | TransformKernel::Forward32 => {
                 forward(&block.residual, block.log2, &mut block.new_coefficients);
                 size_at(&block.new_coefficients, place)
             }

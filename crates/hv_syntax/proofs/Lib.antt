@@ -1,5 +1,7 @@
 mod AroundLemmas
 mod ChainLemmas
+mod CountLemmas
+mod CountedLemmas
 mod LeafLemmas
 mod ModeLemmas
 mod NodeLemmas

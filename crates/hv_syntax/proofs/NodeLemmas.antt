@@ -243,7 +243,7 @@ pub record Children (b : Block) (below step address : ℕ) : Type 0 where
   pub third : NamesNode (place_of b) (plan_of b) below (address + 2 * step)
   pub fourth : NamesNode (place_of b) (plan_of b) below (address + 3 * step)
 
-some_squares : (size : ℕ) → 1 ≤ squares size
+pub some_squares : (size : ℕ) → 1 ≤ squares size
 some_squares zero = omega arith
 some_squares (suc size) = omega (arith, some_squares size)
 

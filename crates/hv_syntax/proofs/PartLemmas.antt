@@ -108,7 +108,7 @@ no_quarter : (p : Prediction) (cb cr : Bool) → quarters_bins p cb cr [] ≡ []
 unfolding quarters_bins
 no_quarter p cb cr = refl
 
-four_quarters : (p : Prediction) (cb cr : Bool) (t u v w : TransformUnit) →
+pub four_quarters : (p : Prediction) (cb cr : Bool) (t u v w : TransformUnit) →
     quarter_bins p cb cr t ++ (quarter_bins p cb cr u ++ (quarter_bins p cb cr v ++
     quarter_bins p cb cr w)) ≡ quarters_bins p cb cr (t ∷ u ∷ v ∷ w ∷ [])
 four_quarters p cb cr t u v w =

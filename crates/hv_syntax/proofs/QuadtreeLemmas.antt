@@ -16,7 +16,7 @@ use Rattle.hv_syntax.specs.Squares.{Shows, NamesNode}
 use Rattle.hv_syntax.proofs.ChainLemmas.{puts_3, puts_5}
 use Rattle.hv_syntax.proofs.NodeLemmas.{outside_tree, leaf_tree, split_tree, size_of_split, shows_after, names_parts}
 
-leaf_parts : (s : Surroundings) (size address : ℕ) (earlier : List Square) (p : Prediction)
+pub leaf_parts : (s : Surroundings) (size address : ℕ) (earlier : List Square) (p : Prediction)
     (units : List TransformUnit) →
     split_bins s size address earlier false ++ (pred_mode_bins s.slice_type p ++
     predicted_bins s size address earlier p units) ≡
@@ -122,7 +122,7 @@ puts_split stands a0 a1 a2 a3 a4 a5 b s size step address earlier u is_step insi
     at split
 
 -- ---- nodes that aren't split
-no_bins : (s : Surroundings) (size address : ℕ) (earlier : List Square) →
+pub no_bins : (s : Surroundings) (size address : ℕ) (earlier : List Square) →
     bins_of_node s size address earlier Outside ≡ []
 unfolding bins_of_node
 no_bins s zero address earlier = refl

@@ -1,12 +1,12 @@
 -- What is put of a coding tree unit (7.3.8.2).
-use Rattle.std.proofs.Common.{◌≡◌, Bool, List, [], ◌∷◌, ◌++◌, map, refl, ◌∙◌, subst, append_assoc, arith}
+use Rattle.std.proofs.Common.{◌≡◌, ℕ, Bool, List, [], ◌∷◌, ◌++◌, length, map, refl, ◌∙◌, subst, append_assoc, arith}
 use Rattle.hv_types.specs.Bins.{Bin, Puts, terminate_bin}
 use Rattle.hv_residual_model.specs.UnitBins.{PutsUnit, slice_bin}
 use Rattle.hv_residual.proofs.PuttingLemmas.{Stands}
-use Rattle.hv_unit_model.specs.Trees.{CodingTreeUnit, greatest_size}
+use Rattle.hv_unit_model.specs.Trees.{Tree, CodingTreeUnit, greatest_size}
 use Rattle.hv_unit_model.specs.Sites.{Site}
 use Rattle.hv_unit_model.specs.EarlierUnits.{Square, Surroundings}
-use Rattle.hv_unit_model.specs.Plans.{Plan, UnitsAround, tree_of, in_block}
+use Rattle.hv_unit_model.specs.Plans.{Plan, UnitsAround, tree_at, tree_of, in_block}
 use Rattle.hv_unit_model.specs.Bins.{sao_bins, bins_of_node, bins}
 use Rattle.hv_plan.specs.declared.offsets.SaoParam.{SaoParam}
 use Rattle.hv_syntax.specs.declared.block.Block.{Block}
@@ -49,3 +49,23 @@ puts_ctb stands a0 a1 a2 a3 b around place sao last e beside p1 p2 p3 =
     (puts_unit stands a0 a1 a2 a3 (at (place_of b)) (unit (place_of b)) p1
     (p2 (at (place_of b)) [] (in_block_sees b around beside) (shows_none (place_of b) (plan_of b)))
     p3)
+
+abbrev Counted : ℕ → Surroundings → List Square → (size address : ℕ) → Tree → Type 0
+Counted n s earlier size address tree = n ≡ length (bins_of_node s size address earlier tree)
+
+pub count_at : (n : ℕ) (b : Block) (around : UnitsAround) (place : Site) (p : Plan)
+    (size a address : ℕ) (earlier : List Square) → place_of b ≡ place → plan_of b ≡ p →
+    a ≡ address → AreBeside b.beside around →
+    ((s : Surroundings) (e : List Square) → Sees b s → Shows (place_of b) (plan_of b) a e →
+    n ≡ length (bins_of_node s size a e (node_of b size a))) → Shows place p address earlier →
+    n ≡ length (bins_of_node (in_block b.kind b.references place around) size address earlier
+    (tree_at place p size address))
+count_at n b around place p size a address earlier e f g beside count =
+    let at : Site → Surroundings = λ x. in_block b.kind b.references x around in
+    let law : Site → Plan → ℕ → Type 0 = λ x q m. Shows x q m earlier →
+    Counted n (at x) earlier size m (tree_at x q size m) in
+    let here : law (place_of b) (plan_of b) a =
+    λ shows. count (at (place_of b)) earlier (in_block_sees b around beside) shows in
+    let there : law place (plan_of b) a = subst (λ (x : Site). law x (plan_of b) a) e here in
+    let planned : law place p a = subst (λ (q : Plan). law place q a) f there in
+    subst (λ (m : ℕ). law place p m) g planned

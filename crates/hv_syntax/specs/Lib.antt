@@ -1,4 +1,5 @@
 pub mod Blocks
+pub mod Counts
 pub mod Levels
 pub mod Neighbours
 pub mod Parts

@@ -6,6 +6,8 @@
 mod addresses;
 mod block;
 mod coding_unit;
+mod counting;
+mod counting_tree;
 mod elements;
 mod leaves;
 mod levels;
@@ -16,8 +18,10 @@ mod offsets;
 mod quadtree;
 mod seen;
 mod site;
+#[cfg(test)]
+mod tests;
 mod transform;
 mod unit;
 
 pub use modes::most_probable;
-pub use unit::put_ctb;
+pub use unit::{count_node, put_ctb};

@@ -4,7 +4,7 @@ ghost use Rattle.std.specs.Prelude.{◌≡◌, ◌∷◌, [], min};
 ghost use Rattle.std.specs.Int.RustNames.{unsigned_abs};
 ghost use Rattle.hv_residual_model.specs.UnitBins.{PutsUnit};
 ghost use Rattle.hv_residual_model.specs.ResidualBins.{signs, sign_bins};
-ghost use Rattle.hv_plan.specs.declared.offsets.SaoKind.TheVariants.{Band};
+ghost use Rattle.hv_plan.specs.declared.offsets.SaoKind.TheVariants.{Band, Edge};
 ghost use Rattle.hv_unit_model.specs.Bins.{sao_bins, sao_type_bins, offset_abs_bins, offsets_abs_bins, component_bins, cr_bins};
 ghost use Rattle.hv_syntax.specs.Parts.{offset_sign_bins};
 
@@ -105,6 +105,14 @@ fn put_band<B: BinSink>(sink: &mut B, offsets: [i8; 4], position: u8)
     put_fixed_length(sink, 5, u32::from(position));
 }
 
+/// Puts the offsets of edges, and `sao_eo_class_luma` or `sao_eo_class_chroma`.
+fn put_edge<B: BinSink>(sink: &mut B, offsets: [i8; 4], class: u8)
+    ensures { PutsUnit B.stands_for sink.old sink.new (component_bins (Edge class) offsets) }
+{
+    put_magnitudes(sink, offsets);
+    put_fixed_length(sink, 2, u32::from(class));
+}
+
 /// Puts what follows the type of luma or Cb: offsets, and signs with `sao_band_position`, or
 /// `sao_eo_class_luma` or `sao_eo_class_chroma`.
 fn put_component<B: BinSink>(sink: &mut B, component: &SaoComponent)
@@ -114,10 +122,7 @@ fn put_component<B: BinSink>(sink: &mut B, component: &SaoComponent)
     match component.kind {
         SaoKind::Off => {}
         SaoKind::Band { position } => put_band(sink, component.offsets, position),
-        SaoKind::Edge { class } => {
-            put_magnitudes(sink, component.offsets);
-            put_fixed_length(sink, 2, u32::from(class));
-        }
+        SaoKind::Edge { class } => put_edge(sink, component.offsets, class),
     }
 }
 

@@ -84,7 +84,7 @@ fn put_leaf<B: BinSink>(sink: &mut B, block: &Block, size: u8, address: u8, pred
 
 /// Whether a node is a coding unit, by the depth of its upper left unit.
 #[inline(always)]
-fn is_leaf(size: u8, depth: u8) -> bool
+pub fn is_leaf(size: u8, depth: u8) -> bool
     requires { size ≤ 3 }
     ensures { result ≡ ends size depth }
 {

@@ -113,7 +113,7 @@ fn put_quarter<B: BinSink>(
 }
 
 /// `cbf_cb` of a coding unit of 64x64.
-fn cbf_cb(quarters: &Quarters) -> bool
+pub fn cbf_cb(quarters: &Quarters) -> bool
     ensures { result ≡ any_cb (units_of (Four quarters.now)) }
 {
     quarters.first.cbf_cb
@@ -123,7 +123,7 @@ fn cbf_cb(quarters: &Quarters) -> bool
 }
 
 /// `cbf_cr` of a coding unit of 64x64.
-fn cbf_cr(quarters: &Quarters) -> bool
+pub fn cbf_cr(quarters: &Quarters) -> bool
     ensures { result ≡ any_cr (units_of (Four quarters.now)) }
 {
     quarters.first.cbf_cr

@@ -12,6 +12,8 @@ mod segment;
 mod squares;
 mod steps;
 mod strengths;
+#[cfg(test)]
+mod tests;
 mod thresholds;
 mod window;
 

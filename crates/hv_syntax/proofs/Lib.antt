@@ -4,6 +4,7 @@ mod CountLemmas
 mod CountedLemmas
 mod LeafLemmas
 mod ModeLemmas
+mod NamingLemmas
 mod NodeLemmas
 mod OffsetLemmas
 mod PartLemmas

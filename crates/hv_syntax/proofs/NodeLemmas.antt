@@ -148,7 +148,7 @@ shows_after b size address earlier shows names =
     }
 
 -- ---- the squares of a node are those of its four parts
-four_at : (n : ℕ) (xs ys zs ws : List Square) → length xs ≡ n → length ys ≡ n → length zs ≡ n →
+pub four_at : (n : ℕ) (xs ys zs ws : List Square) → length xs ≡ n → length ys ≡ n → length zs ≡ n →
     (i : ℕ) → i < n →
     (slice_index_or (xs ++ (ys ++ (zs ++ ws))) i Unavailable ≡ slice_index_or xs i Unavailable) ×
     (slice_index_or (xs ++ (ys ++ (zs ++ ws))) (n + i) Unavailable ≡

@@ -13,6 +13,7 @@ mod leaves;
 mod levels;
 mod modes;
 mod motion;
+mod naming;
 mod near;
 mod offsets;
 mod quadtree;
@@ -24,4 +25,5 @@ mod transform;
 mod unit;
 
 pub use modes::most_probable;
+pub use naming::names_its_units;
 pub use unit::{count_node, put_ctb};

@@ -1,0 +1,169 @@
+//! Whether the units of a coding tree block name the coding units of its quadtree.
+
+ghost use Rattle.std.specs.Prelude.{◌≡◌, ◌<◌, ◌≤◌, ◌+◌, ◌*◌, ℕ, true, false, length, slice_get, Some};
+ghost use Rattle.hv_unit_model.specs.Sites.{squares, is_outside};
+ghost use Rattle.hv_unit_model.specs.Plans.{NamesItsUnits, prediction_of, coded_square};
+ghost use Rattle.hv_syntax.specs.Blocks.{lists_of, ends};
+ghost use Rattle.hv_syntax.specs.Neighbours.{lists_of_plan};
+ghost use Rattle.hv_syntax.specs.Squares.{NamesNode, own_square};
+
+use crate::addresses::is_outside;
+use crate::block::Plan;
+use crate::near::view;
+use crate::quadtree::is_leaf;
+use crate::site::Site;
+use hv_block::CtbPlan;
+use hv_plan::{Mv, Place, Pred, Unit};
+
+/// Whether two vectors are the same.
+fn is_same(a: Mv, b: Mv) -> bool
+    ensures { result ≡ true → a ≡ b }
+{
+    a.x == b.x && a.y == b.y
+}
+
+/// Whether what is coded of two predictions is the same.
+fn is_coded_alike(a: Pred, b: Pred) -> bool
+    ensures { result ≡ true → prediction_of a ≡ prediction_of b }
+{
+    match a {
+        Pred::Intra { mode } => match b {
+            Pred::Intra { mode: other } => mode == other,
+            Pred::Inter { .. } => false,
+        },
+        Pred::Inter {
+            reference,
+            mv: _,
+            flag,
+            mvd,
+        } => match b {
+            Pred::Intra { .. } => false,
+            Pred::Inter {
+                reference: other,
+                mv: _,
+                flag: other_flag,
+                mvd: other_mvd,
+            } => { reference == other && flag == other_flag && is_same(mvd, other_mvd) }
+        },
+    }
+}
+
+/// Whether a square is coded as this unit is, or is outside the picture.
+fn has_unit(site: &Site, plan: &Plan, address: u8, unit: Unit) -> bool
+    requires { address < 64 }
+    ensures { result ≡ true → is_outside site.now.place address ≡ false →
+        own_square (lists_of plan.now) address ≡ coded_square unit }
+{
+    if is_outside(site, address) {
+        return true;
+    }
+    let own = first_unit(plan, address);
+    own.depth == unit.depth && is_coded_alike(own.pred, unit.pred)
+}
+
+/// Whether so many squares from an address on are coded as this unit is, or are outside the
+/// picture.
+fn have_unit(site: &Site, plan: &Plan, from: u8, count: u8, unit: Unit) -> bool
+    requires { from + count ≤ 64 }
+    ensures { result ≡ true → (i : ℕ) → i < count →
+        is_outside site.now.place (from + i) ≡ false →
+        own_square (lists_of plan.now) (from + i) ≡ coded_square unit }
+{
+    if count == 0 {
+        return true;
+    }
+    if !has_unit(site, plan, from, unit) {
+        return false;
+    }
+    have_unit(site, plan, from + 1, count - 1, unit)
+}
+
+/// Whether so many squares from an address on are outside the picture.
+fn are_outside(site: &Site, from: u8, count: u8) -> bool
+    requires { from + count ≤ 64 }
+    ensures { result ≡ true → (i : ℕ) → i < count →
+        is_outside site.now.place (from + i) ≡ true }
+{
+    if count == 0 {
+        return true;
+    }
+    if !is_outside(site, from) {
+        return false;
+    }
+    are_outside(site, from + 1, count - 1)
+}
+
+/// How many squares a node of this size has.
+fn squares_of(size: u8) -> u8
+    requires { size ≤ 3 }
+    ensures value { result ≡ squares size }
+    ensures most { result ≤ 64 }
+{
+    match size {
+        0 => 1,
+        1 => 4,
+        2 => 16,
+        _ => 64,
+    }
+}
+
+/// Whether the units of a coding unit of this size name it, which begins inside the picture.
+fn names_leaf(site: &Site, plan: &Plan, size: u8, address: u8, unit: Unit) -> bool
+    requires size { size ≤ 3 }
+    requires inside { address + squares size ≤ 64 }
+    requires begins { is_outside site.now.place address ≡ false }
+    requires first { slice_get plan.now.units.now address ≡ Some unit }
+    requires leaf { ends size unit.depth ≡ true }
+    ensures { result ≡ true → NamesNode site.now.place (lists_of plan.now) size address }
+{
+    if unit.depth != 3 - size {
+        return false;
+    }
+    have_unit(site, plan, address, squares_of(size), unit)
+}
+
+/// Whether the units of a node name its coding units.
+fn names_node(site: &Site, plan: &Plan, size: u8, address: u8) -> bool
+    requires size { size ≤ 3 }
+    requires inside { address + squares size ≤ 64 }
+    requires address { address < 64 }
+    ensures { result ≡ true → NamesNode site.now.place (lists_of plan.now) size address }
+{
+    if is_outside(site, address) {
+        return are_outside(site, address, squares_of(size));
+    }
+    let unit = first_unit(plan, address);
+    if is_leaf(size, unit.depth) {
+        return names_leaf(site, plan, size, address, unit);
+    }
+    let below = size - 1;
+    let step = squares_of(below);
+    if !names_node(site, plan, below, address) {
+        return false;
+    }
+    if !names_node(site, plan, below, address + step) {
+        return false;
+    }
+    if !names_node(site, plan, below, address + 2 * step) {
+        return false;
+    }
+    names_node(site, plan, below, address + 3 * step)
+}
+
+/// The unit of a square.
+fn first_unit(plan: &Plan, address: u8) -> Unit
+    requires { address < 64 }
+    ensures { slice_get plan.now.units.now address ≡ Some result }
+{
+    plan.units[usize::from(address)]
+}
+
+/// Whether the plan names its coding units at this place, as `put_ctb` asks: true only where each
+/// unit inside the picture is coded as that of the first square of its coding unit, and has the depth
+/// of the quadtree there. The picture has a column of luma samples at least.
+pub fn names_its_units(place: Place, plan: &CtbPlan) -> bool
+    requires { 0 < place.width }
+    ensures { result ≡ true → NamesItsUnits place (lists_of_plan plan.now) }
+{
+    names_node(&Site::of(place), &view(plan), 3, 0)
+}

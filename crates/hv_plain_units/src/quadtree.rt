@@ -48,7 +48,7 @@ fn read_split_flag(source: &mut Source<'_>, picture: &Picture, node: Node) -> Op
 }
 
 /// Whether a square is available and lies deeper than this.
-pub(crate) fn lies_deeper(square: Option<Square>, depth: u8) -> bool {
+fn lies_deeper(square: Option<Square>, depth: u8) -> bool {
     match square {
         None => false,
         Some(square) => square.depth > depth,

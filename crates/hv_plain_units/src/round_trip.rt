@@ -69,7 +69,9 @@ fn read_back(
     blocks: &[CodedBlock],
     tally: UnitTally,
 ) -> Result<Option<UnitTally>, NoMemory> {
-    let bytes = write_slice(alloc, slice, QP, blocks)?;
+    let Some(bytes) = write_slice(alloc, slice, QP, blocks)? else {
+        return Ok(None);
+    };
     if bytes.len() > MOST_BYTES {
         return Ok(None);
     }

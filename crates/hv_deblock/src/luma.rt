@@ -130,7 +130,8 @@ pub(crate) fn normal_line(tc: u8, smooth_p: bool, smooth_q: bool, line: Line) ->
 }
 
 /// A line of a luma edge behind the filter, by the thresholds `beta`, 0 to 64, and `tc`, 0 to 24,
-/// and the first and the last of the four lines that are decided on together (8.7.2.5.3, 8.7.2.5.7).
+/// and the first and the last of the four lines that are decided on together (8.7.2.5.3,
+/// 8.7.2.5.7).
 #[inline(always)]
 pub fn luma_line(beta: u8, tc: u8, first: Line, last: Line, line: Line) -> Line
     requires tc { tc ≤ 24 }

@@ -1,5 +1,5 @@
--- The filters of an edge: its thresholds, its decisions, and the new samples of its lines (8.7.2.5).
--- Samples have 8 bits, and slice_beta_offset_div2 and slice_tc_offset_div2 are 0.
+-- The filters of an edge: its thresholds, its decisions, and the new samples of its lines
+-- (8.7.2.5). Samples have 8 bits, and slice_beta_offset_div2 and slice_tc_offset_div2 are 0.
 use Rattle.std.specs.Prelude.{ℕ, ◌+◌, ◌-◌, ◌*◌, ◌/◌, min, max, Bool, cond, nat_eq, nat_lt, ◌&&◌, List, [], ◌∷◌, ◌++◌, replicate, slice_index_or, unsigned_abs, ℤ, pos, neg_ℤ, ◌+ℤ◌, ◌-ℤ◌, ◌*ℤ◌}
 use Rattle.std.specs.Int.{abs_diff, int_shr}
 use Rattle.hv_lemmas.specs.Clipping.{clip1, clip3}

@@ -200,7 +200,8 @@ fn put_four_of_8<const W: usize>(
     requires shift_most { shift ≤ 12 }
     requires room { length out.old ≡ 4 }
     ensures count { length out.new ≡ 4 }
-    ensures each { (j : ℕ) → j < 4 → at out.new j ≡ entry_mean 8 entries.now rows.now shift (4 * i + j) }
+    ensures each { (j : ℕ) → j < 4 →
+        at out.new j ≡ entry_mean 8 entries.now rows.now shift (4 * i + j) }
 {
     put_four(sums_of_8(rows, 0, i, &entries[..]), shift, out);
 }
@@ -301,8 +302,8 @@ fn put_four_of_32<const W: usize>(
 
 /// The means of the sums over all columns of 16, at one frequency.
 ///
-/// It isn't inlined and has no loop, since the compiler would widen the numbers outside the loop over
-/// the frequencies, and the multiplication of pairs would be lost.
+/// It isn't inlined and has no loop, since the compiler would widen the numbers outside the loop
+/// over the frequencies, and the multiplication of pairs would be lost.
 #[inline(never)]
 fn put_row_of_16(rows: &[[i16; 40]; 8], entries: &[i16; 16], shift: u32, out: &mut [i32])
     requires numbers { (u r : ℕ) → u < 16 → r < 16 →
@@ -322,8 +323,8 @@ fn put_row_of_16(rows: &[[i16; 40]; 8], entries: &[i16; 16], shift: u32, out: &m
 
 /// The means of the sums over all columns of 32, at one frequency.
 ///
-/// It isn't inlined and has no loop, since the compiler would widen the numbers outside the loop over
-/// the frequencies, and the multiplication of pairs would be lost.
+/// It isn't inlined and has no loop, since the compiler would widen the numbers outside the loop
+/// over the frequencies, and the multiplication of pairs would be lost.
 #[inline(never)]
 fn put_row_of_32(rows: &[[i16; 72]; 16], entries: &[i16; 32], shift: u32, out: &mut [i32])
     requires numbers { (u r : ℕ) → u < 32 → r < 32 →

@@ -2,10 +2,10 @@
 //!
 //! A row of 16 weights is for four frequencies and four numbers of a row: weight 2 j + r of each
 //! half is for frequency j, and for number r of two. The first row has the matrix of four rows.
-//! Then come the odd halves of 8, 16 and 32 rows, up to the side of the table: before each row stand
-//! the side, the first of its four odd frequencies, and the first of its numbers. The last row is
-//! the shift of the pass: so no table is another's, and the compiler doesn't keep what two passes
-//! would share (see the weights of the inverse transform).
+//! Then come the odd halves of 8, 16 and 32 rows, up to the side of the table: before each row
+//! stand the side, the first of its four odd frequencies, and the first of its numbers. The last
+//! row is the shift of the pass: so no table is another's, and the compiler doesn't keep what two
+//! passes would share (see the weights of the inverse transform).
 //!
 //! The sums over columns take the matrix itself, in 16 bits.
 ghost use Rattle.hv_tables.specs.Tables.{HasEntries};

@@ -1,7 +1,7 @@
 //! Sums over rows of numbers, in even and odd halves, and their means.
 //!
-//! The even frequencies of 2m numbers are those of the m sums of numbers that mirror each other, and
-//! the odd ones are sums of the products of their m differences.
+//! The even frequencies of 2m numbers are those of the m sums of numbers that mirror each other,
+//! and the odd ones are sums of the products of their m differences.
 ghost use Rattle.std.specs.Prelude.{ℕ, ℤ, ◌+◌, ◌*◌, ◌≡◌, ◌<◌, ◌≤◌, length, ◌+ℤ◌};
 ghost use Rattle.hv_lanes.specs.Passes.{HasFirst, AreWithin, table_row};
 ghost use Rattle.hv_lanes.specs.Lanes.{at, Numbers, FourLanes};

@@ -84,7 +84,8 @@ cropped size picture =
 
 abbrev pub shown_sequence : Sequence → Option (List Picture)
 shown_sequence sequence =
-    option_map (λ pictures. map (λ decoded. cropped sequence.size decoded.picture) (by_count pictures))
+    option_map
+    (λ pictures. map (λ decoded. cropped sequence.size decoded.picture) (by_count pictures))
     (decoded_sequence sequence)
 
 abbrev pub shown_then : Option (List Picture) → Option (List Picture) → Option (List Picture)

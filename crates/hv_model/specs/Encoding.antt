@@ -52,8 +52,8 @@ picture_unit cfg count picture =
     (unit_of_slice (header_in cfg count picture) (picture_sites cfg)
     (coded_units (picture_sites cfg)))
 
--- the reconstruction of a picture before it is cropped: where nothing is chosen, every sample is the
--- middle one before the in-loop filters
+-- the reconstruction of a picture before it is cropped: where nothing is chosen, every sample is
+-- the middle one before the in-loop filters
 abbrev pub recon_picture : Settings → Picture
 recon_picture cfg =
     filtered_picture (coded_units (picture_sites cfg))

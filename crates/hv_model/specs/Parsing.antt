@@ -96,7 +96,8 @@ picture_of_unit levels size unit =
 
 -- ---- the stream
 
-abbrev pub picture_then : Option CodedPicture → Option (List CodedPicture) → Option (List CodedPicture)
+abbrev pub picture_then :
+    Option CodedPicture → Option (List CodedPicture) → Option (List CodedPicture)
 picture_then None pictures = None
 picture_then (Some picture) None = None
 picture_then (Some picture) (Some pictures) = Some (picture ∷ pictures)

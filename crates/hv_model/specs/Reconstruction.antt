@@ -49,10 +49,10 @@ pub record DecodedPicture : Type 0 where
   pub PicOrderCntVal : ℕ
   pub picture : Picture
 
--- A picture of these sides with this slice header and this list 0, before the in-loop filters, where
--- all units are blank: the first block predicts from nothing, which stands for 128 (8.4.4.2.2), and
--- DC of samples that are all 128 is 128 (8.4.4.2.5); no level adds to it. So far there are no
--- samples of other units.
+-- A picture of these sides with this slice header and this list 0, before the in-loop filters,
+-- where all units are blank: the first block predicts from nothing, which stands for 128
+-- (8.4.4.2.2), and DC of samples that are all 128 is 128 (8.4.4.2.5); no level adds to it. So far
+-- there are no samples of other units.
 abbrev pub unfiltered_picture :
     ℕ → ℕ → SliceHeader → List DecodedPicture → List CodingTreeUnit → Option Picture
 unfiltered_picture width height header references units =

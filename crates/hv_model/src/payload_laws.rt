@@ -23,8 +23,9 @@ pub fn slice_data_is_read()
 {}
 
 /// A picture's unit, made with a slice header (7.3.6) of this profile and the slice data of all
-/// coding tree blocks of a picture of some size, is read as this header and these coding tree units.
-/// It has type 20 for an IDR picture and type 1 for others, and may be an I or a P slice there.
+/// coding tree blocks of a picture of some size, is read as this header and these coding tree
+/// units. It has type 20 for an IDR picture and type 1 for others, and may be an I or a P slice
+/// there.
 pub fn slices_are_read()
     ensures { SlicesAreRead }
 {

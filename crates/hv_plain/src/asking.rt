@@ -36,8 +36,8 @@ pub(crate) fn power(exponent: u8) -> u32 {
     1u32.wrapping_shl(u32::from(exponent))
 }
 
-/// A number in Exp-Golomb of order `k`, below 16 (9.3.3.5), behind the count of its ones. None after
-/// more than `most` ones, below 16, or where the decoder gives no answer.
+/// A number in Exp-Golomb of order `k`, below 16 (9.3.3.5), behind the count of its ones. None
+/// after more than `most` ones, below 16, or where the decoder gives no answer.
 pub fn read_exp_golomb(
     reader: &mut BinReader<'_>,
     tally: &mut Tally,

@@ -86,9 +86,9 @@ pub(crate) fn generate(random: &mut Random, number: u32) -> Generated {
     }
 }
 
-/// The levels of a block of side 2^log2, 4 to 32, by rows, and zeros behind them; they aren't all 0.
-/// There are eight kinds, from 0: few, small, one at a corner, large, by which the Rice parameter
-/// rises, of magnitude 1, islands, and noise.
+/// The levels of a block of side 2^log2, 4 to 32, by rows, and zeros behind them; they aren't all
+/// 0. There are eight kinds, from 0: few, small, one at a corner, large, by which the Rice
+/// parameter rises, of magnitude 1, islands, and noise.
 pub fn levels_of_kind(random: &mut Random, kind: u8, log2: u8) -> [i16; 1024] {
     let mut levels = [0i16; 1024];
     match kind {

@@ -15,8 +15,8 @@ use std::alloc::Global;
 const SPLITS: [u32; 4] = [0, 4, 4, 5];
 
 /// The blocks of a picture, in raster order: coding quadtrees that the edge of the picture allows,
-/// in I slices of intra units alone, with levels and offsets in their ranges. `NoMemory` where there
-/// is not enough memory. That the blocks are valid is tested, not proved.
+/// in I slices of intra units alone, with levels and offsets in their ranges. `NoMemory` where
+/// there is not enough memory. That the blocks are valid is tested, not proved.
 pub fn generate_picture(
     alloc: Global,
     random: &mut Random,

@@ -174,8 +174,8 @@ fn scan_of(source: &mut Source<'_>, prediction: Prediction, log2: u8, is_luma: b
     scan
 }
 
-/// The scan of a block, and its scanIdx where that depends on the mode: where an intra block has 4x4
-/// samples, or is luma of 8x8 (7.4.9.11).
+/// The scan of a block, and its scanIdx where that depends on the mode: where an intra block has
+/// 4x4 samples, or is luma of 8x8 (7.4.9.11).
 fn scan_by_mode(prediction: Prediction, log2: u8, is_luma: bool) -> (Option<u8>, Scan) {
     let Prediction::Intra { mode } = prediction else {
         return (None, Scan::Diagonal);

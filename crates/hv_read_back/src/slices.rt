@@ -1,5 +1,6 @@
-//! Slices of blocks from a seed, and those of standard input: a line for each, with `I` or `P`, the number of references, the
-//! quantiser, the sides of the picture in luma samples, and the data in hexadecimal.
+//! Slices of blocks from a seed, and those of standard input: a line for each, with `I` or `P`, the
+//! number of references, the quantiser, the sides of the picture in luma samples, and the data in
+//! hexadecimal.
 
 use anyhow::bail;
 use hv_plain::BinReader;

@@ -51,13 +51,18 @@ pub record Sees (b : Block) (s : Surroundings) : Type 0 where
   pub slice_type : s.slice_type ≡ b.kind
   pub references : s.references ≡ b.references
   pub site : s.site ≡ place_of b
-  pub left : (address : ℕ) (earlier : List Square) → address < 64 → Shows (place_of b) (plan_of b) address earlier →
+  pub left :
+      (address : ℕ) (earlier : List Square) → address < 64 →
+      Shows (place_of b) (plan_of b) address earlier →
       is_outside (place_of b) address ≡ false → left_of s address earlier ≡ seen_left b address
-  pub above : (address : ℕ) (earlier : List Square) → address < 64 → Shows (place_of b) (plan_of b) address earlier →
+  pub above :
+      (address : ℕ) (earlier : List Square) → address < 64 →
+      Shows (place_of b) (plan_of b) address earlier →
       is_outside (place_of b) address ≡ false → above_of s address earlier ≡ seen_above b address
 
 -- coding has come to a node that begins inside the picture
-pub record Reached (b : Block) (s : Surroundings) (address : ℕ) (earlier : List Square) : Type 0 where
+pub record Reached
+    (b : Block) (s : Surroundings) (address : ℕ) (earlier : List Square) : Type 0 where
   pub sees : Sees b s
   pub shows : Shows (place_of b) (plan_of b) address earlier
   pub inside : is_outside (place_of b) address ≡ false

@@ -1,6 +1,6 @@
 //! Coding tree units as bins (7.3.8): sample adaptive offsets, the coding quadtree, prediction,
-//! transform trees, and `end_of_slice_segment_flag`. Nothing here takes memory, and each call always
-//! answers.
+//! transform trees, and `end_of_slice_segment_flag`. Nothing here takes memory, and each call
+//! always answers.
 #![tactic(auto)]
 
 mod addresses;

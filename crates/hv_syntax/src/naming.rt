@@ -159,8 +159,8 @@ fn first_unit(plan: &Plan, address: u8) -> Unit
 }
 
 /// Whether the plan names its coding units at this place, as `put_ctb` asks: true only where each
-/// unit inside the picture is coded as that of the first square of its coding unit, and has the depth
-/// of the quadtree there. The picture has a column of luma samples at least.
+/// unit inside the picture is coded as that of the first square of its coding unit, and has the
+/// depth of the quadtree there. The picture has a column of luma samples at least.
 pub fn names_its_units(place: Place, plan: &CtbPlan) -> bool
     requires { 0 < place.width }
     ensures { result ≡ true → NamesItsUnits place (lists_of_plan plan.now) }

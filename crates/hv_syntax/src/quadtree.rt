@@ -99,7 +99,8 @@ pub fn put_node<B: BinSink>(sink: &mut B, block: &Block, size: u8, address: u8)
     requires address { address < 64 }
     requires names { NamesNode (place_of block.now) (plan_of block.now) size address }
     ensures { (s : Surroundings) (earlier : List Square) → Sees block.now s →
-        Shows (place_of block.now) (plan_of block.now) address earlier → PutsUnit B.stands_for sink.old sink.new
+        Shows (place_of block.now) (plan_of block.now) address earlier →
+        PutsUnit B.stands_for sink.old sink.new
         (bins_of_node s size address earlier (node_of block.now size address)) }
 {
     if is_outside(&block.site, address) {

@@ -58,11 +58,12 @@ pub fn put_ctb<B: BinSink>(
     sink.terminate(last);
 }
 
-/// How many bins a node of the coding quadtree has (`coding_quadtree`, 7.3.8.4), at this place, in a
-/// slice of this kind and number of references: the length of its defined bins, behind any squares
-/// coded earlier that are those of the plan's units at the addresses below the node's, so far as
-/// they are inside the picture. The node lies in the block; the units of it that are inside the
-/// picture name the squares of its tree, as for `put_ctb`. It takes no memory, and visits no bin.
+/// How many bins a node of the coding quadtree has (`coding_quadtree`, 7.3.8.4), at this place, in
+/// a slice of this kind and number of references: the length of its defined bins, behind any
+/// squares coded earlier that are those of the plan's units at the addresses below the node's, so
+/// far as they are inside the picture. The node lies in the block; the units of it that are inside
+/// the picture name the squares of its tree, as for `put_ctb`. It takes no memory, and visits no
+/// bin.
 pub fn count_node(
     kind: SliceKind,
     references: u8,

@@ -77,7 +77,8 @@ is_leaf size (Some unit) = nat_le unit.depth (depth_of size)
 
 unfoldable pub tree_at : Site → Plan → ℕ → ℕ → Tree
 tree_at site plan zero address =
-    cond (is_outside site address) Outside (leaf_at plan zero address (slice_get plan.units address))
+    cond (is_outside site address) Outside
+    (leaf_at plan zero address (slice_get plan.units address))
 tree_at site plan (suc size) address =
     cond (is_outside site address) Outside
     (cond (is_leaf (suc size) (slice_get plan.units address))

@@ -1,0 +1,7 @@
+//! Rebuilding of what a coding tree block shows before the in-loop filters (8.4, 8.6). No call
+//! takes memory, and each equals its definition.
+#![tactic(auto)]
+
+mod transform_block;
+
+pub use transform_block::rebuild_intra;

@@ -1,9 +1,9 @@
 -- A pass of the code, segment after segment, is the pass of the formulas: no segment reads what
 -- another one writes (8.7.2).
-use Rattle.std.proofs.Common.{◌≡◌, ℕ, zero, suc, ◌+◌, ◌-◌, ◌*◌, ◌%◌, ◌<◌, ◌≤◌, Bool, true, false, cond, nat_lt, ◌&&◌, ⊎_elim, refl, sym, ◌∙◌, ap, ap₂, subst, arith}
+use Rattle.std.proofs.Common.{◌≡◌, ℕ, ◌+◌, ◌-◌, ◌*◌, ◌%◌, ◌<◌, ◌≤◌, Bool, true, false, cond, nat_lt, ◌&&◌, ⊎_elim, refl, sym, ◌∙◌, ap, ap₂, subst, arith}
 use Rattle.std.proofs.lemmas.Bool.{cases_lt}
 use Rattle.hv_lemmas.proofs.ComparisonLemmas.{lt_below, lt_not_below}
-use Rattle.hv_types.specs.Samples.{Plane, IsWhole}
+use Rattle.hv_types.specs.Samples.{Plane}
 use Rattle.hv_deblock_model.specs.declared.line.Line.{Line}
 use Rattle.hv_deblock_model.specs.EdgeStrength.{Squares, edge_strength}
 use Rattle.hv_deblock_model.specs.EdgeFilters.{luma_edge, chroma_edge}
@@ -16,46 +16,6 @@ use Rattle.hv_deblock.specs.Passes.{edge_line, segment_sample, filter_of, streng
 use Rattle.hv_deblock.proofs.LineLemmas.{first_of_cond, second_of_cond}
 use Rattle.hv_deblock.proofs.SegmentLemmas.{line_same, line_below}
 use Rattle.hv_deblock.proofs.FilledLemmas.{columns_same, rows_same, fill_below, fill_right, filled_same}
-
--- ---- segments without a strength
-
-no_filter : (component : Component) (qp : ℕ) (first last line : Line) → edge_line component qp 0 first last line ≡ line
-no_filter Luma qp first last line = refl
-no_filter Chroma qp first last line = refl
-
--- the samples of a line stand where they came from
-own_places : (s : Samples) (k y i : ℕ) → 0 < k → i < 8 → line_sample (line_at s k y) i ≡ s (8 * k - 4 + i) y
-own_places s k y zero some less = ap (λ x. s x y) (omega arith)
-own_places s k y (suc zero) some less = ap (λ x. s x y) (omega arith)
-own_places s k y (suc (suc zero)) some less = ap (λ x. s x y) (omega arith)
-own_places s k y (suc (suc (suc zero))) some less = ap (λ x. s x y) (omega arith)
-own_places s k y (suc (suc (suc (suc zero)))) some less = ap (λ x. s x y) (omega arith)
-own_places s k y (suc (suc (suc (suc (suc zero))))) some less = ap (λ x. s x y) (omega arith)
-own_places s k y (suc (suc (suc (suc (suc (suc zero)))))) some less = ap (λ x. s x y) (omega arith)
-own_places s k y (suc (suc (suc (suc (suc (suc (suc zero))))))) some less = ap (λ x. s x y) (omega arith)
-own_places s k y (suc (suc (suc (suc (suc (suc (suc (suc i)))))))) some less = absurd (omega arith)
-
-own_sample : (s : Samples) (k x y : ℕ) → 0 < k → 8 * k - 4 ≤ x → x < 8 * k + 4 → line_sample (line_at s k y) ((x + 4) % 8) ≡ s x y
-own_sample s k x y some from to =
-    own_places s k y ((x + 4) % 8) some (omega arith) ∙ ap (λ c. s c y) (omega (arith, some, from, to))
-
-pub nothing_filtered : (component : Component) (d : Direction) (qp bS k top bottom : ℕ) (p : Plane) → bS ≡ 0 → 0 < k → IsWhole p →
-    IsFilled d (8 * k - 4) (8 * k + 4) top bottom (segment_sample component qp bS k top (samples_of d p)) p p
-nothing_filtered component d qp bS k top bottom p none some whole = record {
-  wide = refl;
-  high = refl;
-  whole = whole;
-  inside = λ x y from to up down column row.
-      sym (
-      ap (λ b. segment_sample component qp b k top (samples_of d p) x y) none
-      ∙ ap (λ l. line_sample l ((x + 4) % 8))
-      (no_filter component qp (line_at (samples_of d p) k top) (line_at (samples_of d p) k (top + 3)) (line_at (samples_of d p) k y))
-      ∙ own_sample (samples_of d p) k x y some from to);
-  before = λ x y less column row. refl;
-  behind = λ x y more column row. refl;
-  above = λ x y less column row. refl;
-  below = λ x y more column row. refl;
-}
 
 -- ---- a segment is a part of the pass
 

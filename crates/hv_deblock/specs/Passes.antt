@@ -1,8 +1,8 @@
 -- What the steps of a pass leave: lines, segments of four lines, and edges.
-use Rattle.std.specs.Prelude.{ℕ, ◌+◌, ◌*◌, ◌/◌, ◌%◌}
+use Rattle.std.specs.Prelude.{Bool, not, nat_eq, ◌&&◌, ℕ, ◌+◌, ◌*◌, ◌/◌, ◌%◌}
 use Rattle.hv_deblock_model.specs.declared.line.Line.{Line}
 use Rattle.hv_deblock_model.specs.EdgeStrength.{Squares, edge_strength}
-use Rattle.hv_deblock_model.specs.EdgeFilters.{luma_edge, chroma_edge}
+use Rattle.hv_deblock_model.specs.EdgeFilters.{beta, is_filtered, luma_edge, chroma_edge}
 use Rattle.hv_deblock_model.specs.Deblocking.{Samples, EdgeFilter, line_at, line_sample, luma_filter, chroma_filter}
 use Rattle.hv_deblock.specs.declared.component.Component.{Component}
 use Rattle.hv_deblock.specs.declared.component.Component.TheVariants.{Luma, Chroma}
@@ -11,6 +11,11 @@ use Rattle.hv_deblock.specs.declared.component.Component.TheVariants.{Luma, Chro
 abbrev pub edge_line : Component → ℕ → ℕ → Line → Line → Line → Line
 edge_line Luma qp bS first last line = luma_edge qp bS first last line
 edge_line Chroma qp bS first last line = chroma_edge qp bS line
+
+-- whether a line of such an edge may change at all
+abbrev pub edge_changes : Component → ℕ → ℕ → Line → Line → Bool
+edge_changes Luma qp bS first last = not (nat_eq bS 0) && is_filtered (beta qp) first last
+edge_changes Chroma qp bS first last = nat_eq bS 2
 
 -- the new sample in column x of row y, of the four rows from `top` on across edge k
 abbrev pub segment_sample : Component → ℕ → ℕ → ℕ → ℕ → Samples → Samples

@@ -36,6 +36,9 @@ pub(crate) fn filter_segment(
 {
     let first = load_line(plane, direction, k, top);
     let last = load_line(plane, direction, k, top + 3);
+    if !component.changes(qp, strength, first, last) {
+        return;
+    }
     for i in 0..4 {
         let line = load_line(plane, direction, k, top + i);
         let filtered = component.filtered(qp, strength, first, last, line);

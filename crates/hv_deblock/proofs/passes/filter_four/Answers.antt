@@ -1,7 +1,7 @@
 use Rattle.std.proofs.Common.{◌+◌, ◌*◌, arith}
 use Rattle.hv_deblock.specs.Filled.{seen}
 use Rattle.hv_deblock.specs.Passes.{strength_of_four}
-use Rattle.hv_deblock.proofs.PassLemmas.{nothing_filtered}
+use Rattle.hv_deblock.proofs.SegmentLemmas.{nothing_filtered}
 use Rattle.hv_deblock.proofs.passes.filter_four.Goals as goal
 
 pub returns-else-strength-gt0 : goal.returns-else-strength-gt0

@@ -154,7 +154,7 @@ decoded_trees qp (site ∷ sites) (tree ∷ trees) d =
     option_and_then (decoded_trees qp sites trees)
     (decoded_tree qp greatest_size (ctb_side * ctb_column site) (ctb_side * ctb_row site) tree d)
 
--- 0 stands for a sample that isn't decoded; that valid trees leave none isn't shown yet
+-- 0 stands for a sample that isn't decoded: valid trees of an I picture leave none
 abbrev pub sample_of : Option ℕ → ℕ
 sample_of None = 0
 sample_of (Some sample) = sample

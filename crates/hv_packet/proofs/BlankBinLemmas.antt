@@ -4,8 +4,9 @@ use Rattle.std.specs.Prelude.{nat_eq, nat_lt, nat_le, ◌||◌, ◌⊎◌}
 use Rattle.std.proofs.lemmas.List.{map-append}
 use Rattle.std.proofs.lemmas.Bool.{cases_lt, or_parts, ltb-false, ne_eqb}
 use Rattle.std.proofs.lemmas.Bool.Decides.{nat_tests}
-use Rattle.hv_types.specs.declared.bins.SliceKind.TheVariants.{I}
-use Rattle.hv_types.specs.declared.bins.CtxTable.TheVariants.{Split as SplitFlag, ChromaMode}
+use Rattle.hv_types.specs.declared.bins.SliceKind.{SliceKind}
+use Rattle.hv_types.specs.declared.bins.SliceKind.TheVariants.{I, P}
+use Rattle.hv_types.specs.declared.bins.CtxTable.TheVariants.{Split as SplitFlag, PartMode, ChromaMode}
 use Rattle.hv_types.specs.Bins.{Bin, terminate_bin}
 use Rattle.hv_plan.specs.declared.offsets.SaoKind.TheVariants.{Off}
 use Rattle.hv_residual_model.specs.UnitBins.{UnitBin, slice_bin}
@@ -15,7 +16,7 @@ use Rattle.hv_unit_model.specs.Sites.{Site, site, sites, sites_from, blocks_over
 use Rattle.hv_unit_model.specs.EarlierUnits.{Square, Unavailable, Coded, squares_of, after, in_picture, split_ctxInc}
 use Rattle.hv_unit_model.specs.MostProbableModes.{dc, candidates}
 use Rattle.hv_unit_model.specs.Validity.{IsValidNode, is_empty}
-use Rattle.hv_unit_model.specs.Bins.{bin, merge_bins, sao_type_bins, sao_bins, luma_mode_bins, transform_unit_bins, quarters_bins, transform_tree_bins, predicted_bins, bins_of_node, slice_bins, slice_bins_from}
+use Rattle.hv_unit_model.specs.Bins.{bin, merge_bins, sao_type_bins, sao_bins, luma_mode_bins, transform_unit_bins, quarters_bins, transform_tree_bins, pred_mode_bins, predicted_bins, bins_of_node, slice_bins, slice_bins_from}
 use Rattle.hv_unit_model.proofs.TransformLemmas.{no_units_valid}
 use Rattle.hv_unit_model.proofs.SquareLemmas.{length-squares}
 use Rattle.hv_unit_model.proofs.NodeLemmas.{IsNode, around, square_in_node, around_own, child_of, squares_above_0, below_4_times}
@@ -37,23 +38,39 @@ lt_left a x s h = grind (arith, nat_tests, h)
 abbrev flat : ℕ → Tree
 flat size = Leaf (Intra dc) (no_units size)
 
-abbrev flat_bins : ℕ → List Bin
-flat_bins size = put.split_bins size ++ put.unit_bins size
+abbrev flat_bins : SliceKind → ℕ → List Bin
+flat_bins kind size = put.split_bins size ++ put.unit_bins kind size
 
-flat_bins_by : (size ctxInc : ℕ) (list : List ℕ) (crossing : Bool) → suc size ≤ 3 →
-    crossing ≡ false → ctxInc ≡ 0 → list ≡ 0 ∷ 1 ∷ 26 ∷ [] →
+flat_bins_by : (kind : SliceKind) (size ctxInc : ℕ) (list : List ℕ) (crossing : Bool) →
+    suc size ≤ 3 → crossing ≡ false → ctxInc ≡ 0 → list ≡ 0 ∷ 1 ∷ 26 ∷ [] →
     map slice_bin
     (cond crossing [] (bin SplitFlag ctxInc false ∷ []) ++
+    (pred_mode_bins kind (Intra dc) ++
     (luma_mode_bins list dc ++
-    (bin ChromaMode 0 false ∷ transform_tree_bins (Intra dc) (suc size) (no_units (suc size))))) ≡
-    flat_bins (suc size)
+    (bin ChromaMode 0 false ∷ transform_tree_bins (Intra dc) (suc size) (no_units (suc size)))))) ≡
+    flat_bins kind (suc size)
 unfolding luma_mode_bins truncated_unary_bins transform_tree_bins quarters_bins transform_unit_bins no_units no_levels
-flat_bins_by zero ctxInc list crossing few c n l = rw (c, n, l) refl
-flat_bins_by (suc zero) ctxInc list crossing few c n l = rw (c, n, l) refl
-flat_bins_by (suc (suc zero)) ctxInc list crossing few c n l = rw (c, n, l) refl
-flat_bins_by (suc (suc (suc size))) ctxInc list crossing few c n l = absurd (omega (arith, few))
+flat_bins_by I zero ctxInc list crossing few c n l = rw (c, n, l) refl
+flat_bins_by I (suc zero) ctxInc list crossing few c n l = rw (c, n, l) refl
+flat_bins_by I (suc (suc zero)) ctxInc list crossing few c n l = rw (c, n, l) refl
+flat_bins_by I (suc (suc (suc size))) ctxInc list crossing few c n l = absurd (omega (arith, few))
+flat_bins_by P zero ctxInc list crossing few c n l = rw (c, n, l) refl
+flat_bins_by P (suc zero) ctxInc list crossing few c n l = rw (c, n, l) refl
+flat_bins_by P (suc (suc zero)) ctxInc list crossing few c n l = rw (c, n, l) refl
+flat_bins_by P (suc (suc (suc size))) ctxInc list crossing few c n l = absurd (omega (arith, few))
 
-module _ (width height index : ℕ) (done : List Square) where
+smallest_bins_by : (kind : SliceKind) (list : List ℕ) → list ≡ 0 ∷ 1 ∷ 26 ∷ [] →
+    map slice_bin
+    (pred_mode_bins kind (Intra dc) ++
+    (bin PartMode 0 true ∷
+    (luma_mode_bins list dc ++
+    (bin ChromaMode 0 false ∷ transform_tree_bins (Intra dc) zero (no_units zero))))) ≡
+    flat_bins kind zero
+unfolding luma_mode_bins truncated_unary_bins transform_tree_bins transform_unit_bins no_units no_levels
+smallest_bins_by I list l = rw l refl
+smallest_bins_by P list l = rw l refl
+
+module _ (kind : SliceKind) (references width height index : ℕ) (done : List Square) where
   here : Site
   here = site width height index
 
@@ -66,9 +83,9 @@ module _ (width height index : ℕ) (done : List Square) where
   -- a node with the bins that it has
   record IsCoded (size address : ℕ) (earlier : List Square) (tree : Tree) (list : List Bin) :
       Type 0 where
-    valid : IsValidNode I 0 (site width height index) size address tree
+    valid : IsValidNode kind references (site width height index) size address tree
     same : map slice_bin
-        (bins_of_node (in_picture I 0 (site width height index) done) size address earlier tree) ≡
+        (bins_of_node (in_picture kind references (site width height index) done) size address earlier tree) ≡
         list
     blank : AllBlank width height (done ++ after size earlier tree)
 
@@ -150,7 +167,7 @@ module _ (width height index : ℕ) (done : List Square) where
       ParentsCross width height index (suc size) address → IsBehind address earlier →
       is_outside (site width height index) address ≡ false →
       crosses (site width height index) (suc size) address ≡ false →
-      IsCoded (suc size) address earlier (flat (suc size)) (flat_bins (suc size))
+      IsCoded (suc size) address earlier (flat (suc size)) (flat_bins kind (suc size))
   unfolding IsValidNode bins_of_node predicted_bins
   unit_node size address earlier node parents behind inside fits =
       let lies = inside_of (suc size) address node fits in
@@ -159,9 +176,9 @@ module _ (width height index : ℕ) (done : List Square) where
       let few = node.few in
       record {
         valid = (inside, fits, omega arith, no_units_valid (suc size));
-        same = flat_bins_by size
-            (split_ctxInc (in_picture I 0 (site width height index) done) (suc size) address earlier)
-            (candidates (in_picture I 0 (site width height index) done) address earlier)
+        same = flat_bins_by kind size
+            (split_ctxInc (in_picture kind references (site width height index) done) (suc size) address earlier)
+            (candidates (in_picture kind references (site width height index) done) address earlier)
             (crosses (site width height index) (suc size) address) few fits
             (ap₂ (λ a b. a + b) left above)
             (dc_candidates width height done earlier index address behind.blank);
@@ -171,11 +188,13 @@ module _ (width height index : ℕ) (done : List Square) where
   smallest_node : (address : ℕ) (earlier : List Square) → IsNode zero address →
       ParentsCross width height index zero address → IsBehind address earlier →
       is_outside (site width height index) address ≡ false →
-      IsCoded zero address earlier (flat zero) (flat_bins zero)
-  unfolding IsValidNode bins_of_node predicted_bins luma_mode_bins truncated_unary_bins transform_tree_bins transform_unit_bins no_units no_levels
+      IsCoded zero address earlier (flat zero) (flat_bins kind zero)
+  unfolding IsValidNode bins_of_node predicted_bins
   smallest_node address earlier node parents behind inside = record {
     valid = (inside, refl, omega arith, no_units_valid zero);
-    same = rw (dc_candidates width height done earlier index address behind.blank) refl;
+    same = smallest_bins_by kind
+        (candidates (in_picture kind references (site width height index) done) address earlier)
+        (dc_candidates width height done earlier index address behind.blank);
     blank = blank_behind_unit zero address earlier node parents behind;
   }
 
@@ -233,15 +252,15 @@ module _ (width height index : ℕ) (done : List Square) where
       (address : ℕ) (earlier : List Square) → IsNode size address →
       ParentsCross width height index size address → IsBehind address earlier →
       IsCoded size address earlier (blank_at size address)
-      (put.node_bins size (across address) (down address))
+      (put.node_bins kind size (across address) (down address))
 
   part_node : (size address c w h : ℕ) (earlier : List Square) → Blanks size →
       IsPart size address c w h → IsBehind c earlier →
-      IsCoded size c earlier (blank_at size c) (put.node_bins size w h)
+      IsCoded size c earlier (blank_at size c) (put.node_bins kind size w h)
   unfolding Blanks
   part_node size address c w h earlier smaller part behind =
-      subst (λ v. IsCoded size c earlier (blank_at size c) (put.node_bins size v h)) part.column
-      (subst (λ v. IsCoded size c earlier (blank_at size c) (put.node_bins size (across c) v))
+      subst (λ v. IsCoded size c earlier (blank_at size c) (put.node_bins kind size v h)) part.column
+      (subst (λ v. IsCoded size c earlier (blank_at size c) (put.node_bins kind size (across c) v))
       part.row (smaller c earlier part.node part.parents behind))
 
   behind_next : (size c next : ℕ) (earlier : List Square) (tree : Tree) (list : List Bin) →
@@ -250,7 +269,7 @@ module _ (width height index : ℕ) (done : List Square) where
   behind_next size c next earlier tree list behind node place =
       let these : List Square = squares_of size tree in
       let many : length these ≡ squares size =
-      length-squares I 0 (site width height index) size c tree node.valid in
+      length-squares kind references (site width height index) size c tree node.valid in
       let before : length done + length earlier ≡ 64 * index + c =
       sym (length-append done earlier) ∙ behind.number in
       record {
@@ -291,10 +310,10 @@ module _ (width height index : ℕ) (done : List Square) where
       (blank_at size (address + squares size))
       (blank_at size (address + 2 * squares size))
       (blank_at size (address + 3 * squares size)))
-      (put.node_bins size (across address) (down address) ++
-      (put.node_bins size (across address - side size) (down address) ++
-      (put.node_bins size (across address) (down address - side size) ++
-      put.node_bins size (across address - side size) (down address - side size))))
+      (put.node_bins kind size (across address) (down address) ++
+      (put.node_bins kind size (across address - side size) (down address) ++
+      (put.node_bins kind size (across address) (down address - side size) ++
+      put.node_bins kind size (across address - side size) (down address - side size))))
   unfolding IsValidNode bins_of_node
   split_node size address earlier smaller node parents behind inside crossing =
       let n : ℕ = squares size in
@@ -340,7 +359,7 @@ module _ (width height index : ℕ) (done : List Square) where
       ParentsCross width height index zero address → IsBehind address earlier →
       is_outside (site width height index) address ≡ outside →
       IsCoded zero address earlier (cond outside Outside (flat zero))
-      (cond outside [] (flat_bins zero))
+      (cond outside [] (flat_bins kind zero))
   smallest_by true address earlier node parents behind e = outside_node zero address earlier behind e
   smallest_by false address earlier node parents behind e =
       smallest_node address earlier node parents behind e
@@ -360,11 +379,11 @@ module _ (width height index : ℕ) (done : List Square) where
   bins_by outside crossing size w h =
       cond outside []
       (cond crossing
-      (put.node_bins size w h ++
-      (put.node_bins size (w - side size) h ++
-      (put.node_bins size w (h - side size) ++
-      put.node_bins size (w - side size) (h - side size))))
-      (flat_bins (suc size)))
+      (put.node_bins kind size w h ++
+      (put.node_bins kind size (w - side size) h ++
+      (put.node_bins kind size w (h - side size) ++
+      put.node_bins kind size (w - side size) (h - side size))))
+      (flat_bins kind (suc size)))
 
   node_by : (outside crossing : Bool) (size address : ℕ) (earlier : List Square) → Blanks size →
       IsNode (suc size) address → ParentsCross width height index (suc size) address →
@@ -385,7 +404,7 @@ module _ (width height index : ℕ) (done : List Square) where
       let outside : Bool = is_outside (site width height index) address in
       subst
       (λ o. IsCoded zero address earlier (cond outside Outside (flat zero))
-      (cond o [] (flat_bins zero)))
+      (cond o [] (flat_bins kind zero)))
       (outside_same address)
       (smallest_by outside address earlier node parents behind refl)
   all_nodes (suc size) address earlier node parents behind =
@@ -408,7 +427,7 @@ module _ (width height index : ℕ) (done : List Square) where
 
   whole_block : AllBlank width height done → length done ≡ 64 * index →
       IsCoded greatest_size 0 [] (best (site width height index))
-      (put.node_bins greatest_size (width - 64 * (index % blocks_over width))
+      (put.node_bins kind greatest_size (width - 64 * (index % blocks_over width))
       (height - 64 * (index / blocks_over width)))
   unfolding across down column_of row_of ParentsCross Blanks
   whole_block blank number =
@@ -424,11 +443,11 @@ module _ (width height index : ℕ) (done : List Square) where
       } in
       subst
       (λ v. IsCoded greatest_size 0 [] (best (site width height index))
-      (put.node_bins greatest_size v h))
+      (put.node_bins kind greatest_size v h))
       column
       (subst
       (λ v. IsCoded greatest_size 0 [] (best (site width height index))
-      (put.node_bins greatest_size (across 0) v))
+      (put.node_bins kind greatest_size (across 0) v))
       row
       (all_nodes 3 0 [] node (λ greater above most. absurd (omega (arith, above, most))) behind))
 
@@ -458,24 +477,24 @@ last_of_count : (count width height index : ℕ) →
 last_of_count zero width height index = refl
 last_of_count (suc count) width height index = sym (ne_eqb (suc count) 0 (λ e. omega (arith, e)))
 
-blocks_defined : (width height count index : ℕ) (done : List Square) →
+blocks_defined : (kind : SliceKind) (references width height count index : ℕ) (done : List Square) →
     AllBlank width height done → length done ≡ 64 * index →
-    slice_bins_from I 0 done (sites_from count width height index)
+    slice_bins_from kind references done (sites_from count width height index)
     (coded_units (sites_from count width height index)) ≡
-    put.blocks_bins width height count index
-blocks_defined width height zero index done blank number = refl
-blocks_defined width height (suc count) index done blank number =
+    put.blocks_bins kind width height count index
+blocks_defined kind references width height zero index done blank number = refl
+blocks_defined kind references width height (suc count) index done blank number =
     let tree : Tree = best (site width height index) in
     let these : List Square = squares_of greatest_size tree in
-    let block = whole_block width height index done blank number in
+    let block = whole_block kind references width height index done blank number in
     let many : length these ≡ 64 =
-    length-squares I 0 (site width height index) greatest_size 0 tree block.valid in
-    let later = blocks_defined width height count (index + 1) (done ++ these) block.blank
+    length-squares kind references (site width height index) greatest_size 0 tree block.valid in
+    let later = blocks_defined kind references width height count (index + 1) (done ++ these) block.blank
     (rw (length-append done these) (omega (arith, many, number))) in
     let offsets : List Bin =
     put.sao_bins (has_left (site width height index)) (has_above (site width height index)) in
     let node : List Bin =
-    put.node_bins greatest_size (width - 64 * (index % blocks_over width))
+    put.node_bins kind greatest_size (width - 64 * (index % blocks_over width))
     (height - 64 * (index / blocks_over width)) in
     let ends = last_of_count count width height (index + 1) in
     ap₂ (λ first others. first ++ others)
@@ -484,10 +503,10 @@ blocks_defined width height (suc count) index done blank number =
     sym (append_assoc offsets node (terminate_bin (nat_eq count 0) ∷ []))))
     later
 
-pub picture_bins_defined : (width height : ℕ) →
-    slice_bins I 0 (sites width height) (coded_units (sites width height)) ≡
-    put.picture_bins width height
+pub picture_bins_defined : (kind : SliceKind) (references width height : ℕ) →
+    slice_bins kind references (sites width height) (coded_units (sites width height)) ≡
+    put.picture_bins kind width height
 unfolding sites
-picture_bins_defined width height =
-    blocks_defined width height (blocks_over width * blocks_over height) 0 []
+picture_bins_defined kind references width height =
+    blocks_defined kind references width height (blocks_over width * blocks_over height) 0 []
     (none_blank width height) refl

@@ -1,3 +1,4 @@
 mod BlankBinLemmas
 mod PuttingLemmas
 mod SliceBinLemmas
+mod HeaderLemmas

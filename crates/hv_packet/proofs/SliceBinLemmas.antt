@@ -3,6 +3,7 @@ use Rattle.std.proofs.Common.{◌≡◌, ℕ, zero, suc, ◌+◌, ◌-◌, ◌*�
 use Rattle.std.specs.Prelude.{nat_eq}
 use Rattle.std.specs.Int.{div_ceil}
 use Rattle.std.proofs.lemmas.Bool.{ne_eqb}
+use Rattle.hv_types.specs.declared.bins.SliceKind.{SliceKind}
 use Rattle.hv_unit_model.specs.Sites.{blocks_over}
 use Rattle.hv_packet.specs.BlankBins.{block_bins, blocks_bins, picture_bins}
 
@@ -10,13 +11,13 @@ use Rattle.hv_packet.specs.BlankBins.{block_bins, blocks_bins, picture_bins}
 pub blocks_counted : (samples : ℕ) → div_ceil samples 64 ≡ blocks_over samples
 blocks_counted samples = omega arith
 
-module _ (width height : ℕ) where
+module _ (slice_type : SliceKind) (width height : ℕ) where
   -- the bins of all blocks
   pub all_bins : (count : ℕ) → count ≡ blocks_over width * blocks_over height →
-      blocks_bins width height count 0 ≡ picture_bins width height
-  all_bins count e = ap (λ n. blocks_bins width height n 0) e
+      blocks_bins slice_type width height count 0 ≡ picture_bins slice_type width height
+  all_bins count e = ap (λ n. blocks_bins slice_type width height n 0) e
 
-  pub no_bins : (count index : ℕ) → count ≡ 0 → blocks_bins width height count index ≡ []
+  pub no_bins : (count index : ℕ) → count ≡ 0 → blocks_bins slice_type width height count index ≡ []
   no_bins count index e = rw e refl
 
   -- no block is behind the last one, and behind that one alone
@@ -29,14 +30,14 @@ module _ (width height : ℕ) where
 
   -- the bins of a block, and those of the blocks behind it
   pub first_bins : (columns total index : ℕ) → columns ≡ blocks_over width → index < total →
-      blocks_bins width height (total - index) index ≡
-      block_bins width height (index % columns) (index / columns) (nat_eq (index + 1) total) ++
-      blocks_bins width height (total - (index + 1)) (index + 1)
+      blocks_bins slice_type width height (total - index) index ≡
+      block_bins slice_type width height (index % columns) (index / columns) (nat_eq (index + 1) total) ++
+      blocks_bins slice_type width height (total - (index + 1)) (index + 1)
   first_bins columns total index e h =
       let left : ℕ = total - (index + 1) in
       let count : total - index ≡ suc left = omega (arith, h) in
       let last : nat_eq left 0 ≡ nat_eq (index + 1) total =
       ends left (index + 1) total refl (omega (arith, h)) in
       rw (e, count) (ap
-      (λ is_last. block_bins width height (index % blocks_over width) (index / blocks_over width)
-      is_last ++ blocks_bins width height left (index + 1)) last)
+      (λ is_last. block_bins slice_type width height (index % blocks_over width) (index / blocks_over width)
+      is_last ++ blocks_bins slice_type width height left (index + 1)) last)

@@ -1,8 +1,10 @@
 -- The bins of a picture in which nothing is chosen (7.3.8), as the code puts them: from how much of
 -- the picture there is behind a node's corner, and without a look at the node's neighbours.
 use Rattle.std.specs.Prelude.{ℕ, zero, suc, ◌+◌, ◌-◌, ◌*◌, ◌/◌, ◌%◌, Bool, true, false, cond, nat_eq, nat_lt, ◌||◌, List, [], ◌∷◌, ◌++◌}
+use Rattle.hv_types.specs.declared.bins.SliceKind.{SliceKind}
+use Rattle.hv_types.specs.declared.bins.SliceKind.TheVariants.{I, P}
 use Rattle.hv_types.specs.declared.bins.CtxTable.{CtxTable}
-use Rattle.hv_types.specs.declared.bins.CtxTable.TheVariants.{Split, PartMode, PrevIntra, ChromaMode, CbfLuma, CbfChroma, SaoMerge, SaoType}
+use Rattle.hv_types.specs.declared.bins.CtxTable.TheVariants.{Split, Skip, PredMode, PartMode, PrevIntra, ChromaMode, CbfLuma, CbfChroma, SaoMerge, SaoType}
 use Rattle.hv_types.specs.Bins.{Bin, context_bin, bypass_bin, terminate_bin}
 use Rattle.hv_unit_model.specs.Trees.{side, greatest_size}
 use Rattle.hv_unit_model.specs.Sites.{ctb_side, blocks_over}
@@ -11,6 +13,12 @@ abbrev pub bin : CtxTable → ℕ → Bool → Bin
 bin table ctxInc value = context_bin (record { table = table; index = ctxInc }) value
 
 -- ---- a coding unit of mode DC without a level but 0
+
+-- cu_skip_flag and pred_mode_flag, which P slices have alone: a unit that isn't skipped, of intra
+-- prediction. No unit at the left or above is skipped.
+abbrev pub mode_bins : SliceKind → List Bin
+mode_bins I = []
+mode_bins P = bin Skip 0 false ∷ bin PredMode 0 true ∷ []
 
 -- part_mode is coded in the smallest units alone: PART_2Nx2N
 abbrev pub part_bins : ℕ → List Bin
@@ -35,8 +43,9 @@ abbrev pub transform_bins : ℕ → List Bin
 transform_bins size = bin CbfChroma 0 false ∷ bin CbfChroma 0 false ∷ luma_bins size
 
 -- coding_unit (7.3.8.5)
-abbrev pub unit_bins : ℕ → List Bin
-unit_bins size = part_bins size ++ prediction_bins ++ transform_bins size
+abbrev pub unit_bins : SliceKind → ℕ → List Bin
+unit_bins slice_type size =
+    mode_bins slice_type ++ part_bins size ++ prediction_bins ++ transform_bins size
 
 -- split_cu_flag of a unit that isn't split. The smallest have none. No unit at the left or above is
 -- deeper.
@@ -56,17 +65,17 @@ abbrev pub crosses : ℕ → ℕ → ℕ → Bool
 crosses size width height = nat_lt width (side size) || nat_lt height (side size)
 
 -- a node at the picture's edge is split without a flag
-abbrev pub node_bins : ℕ → ℕ → ℕ → List Bin
-node_bins zero width height =
-    cond (is_outside width height) [] (split_bins zero ++ unit_bins zero)
-node_bins (suc size) width height =
+abbrev pub node_bins : SliceKind → ℕ → ℕ → ℕ → List Bin
+node_bins slice_type zero width height =
+    cond (is_outside width height) [] (split_bins zero ++ unit_bins slice_type zero)
+node_bins slice_type (suc size) width height =
     cond (is_outside width height) []
     (cond (crosses (suc size) width height)
-    (node_bins size width height ++
-    (node_bins size (width - side size) height ++
-    (node_bins size width (height - side size) ++
-    node_bins size (width - side size) (height - side size))))
-    (split_bins (suc size) ++ unit_bins (suc size)))
+    (node_bins slice_type size width height ++
+    (node_bins slice_type size (width - side size) height ++
+    (node_bins slice_type size width (height - side size) ++
+    node_bins slice_type size (width - side size) (height - side size))))
+    (split_bins (suc size) ++ unit_bins slice_type (suc size)))
 
 -- ---- coding_tree_unit (7.3.8.2), and end_of_slice_segment_flag
 
@@ -80,23 +89,23 @@ sao_bins has_left has_above =
     merge_bins has_left ++ merge_bins has_above ++ bin SaoType 0 false ∷ bin SaoType 0 false ∷ []
 
 -- of the block in this column and row of a picture of these sides in luma samples
-abbrev pub block_bins : ℕ → ℕ → ℕ → ℕ → Bool → List Bin
-block_bins width height column row is_last =
+abbrev pub block_bins : SliceKind → ℕ → ℕ → ℕ → ℕ → Bool → List Bin
+block_bins slice_type width height column row is_last =
     sao_bins (nat_lt 0 column) (nat_lt 0 row) ++
-    node_bins greatest_size (width - ctb_side * column) (height - ctb_side * row) ++
+    node_bins slice_type greatest_size (width - ctb_side * column) (height - ctb_side * row) ++
     terminate_bin is_last ∷ []
 
 -- ---- slice_segment_data (7.3.8.1)
 
 -- so many blocks from this number on, the last of which ends the slice
-abbrev pub blocks_bins : ℕ → ℕ → ℕ → ℕ → List Bin
-blocks_bins width height zero index = []
-blocks_bins width height (suc count) index =
-    block_bins width height (index % blocks_over width) (index / blocks_over width)
+abbrev pub blocks_bins : SliceKind → ℕ → ℕ → ℕ → ℕ → List Bin
+blocks_bins slice_type width height zero index = []
+blocks_bins slice_type width height (suc count) index =
+    block_bins slice_type width height (index % blocks_over width) (index / blocks_over width)
     (nat_eq count 0) ++
-    blocks_bins width height count (index + 1)
+    blocks_bins slice_type width height count (index + 1)
 
 -- all blocks of a picture
-abbrev pub picture_bins : ℕ → ℕ → List Bin
-picture_bins width height =
-    blocks_bins width height (blocks_over width * blocks_over height) 0
+abbrev pub picture_bins : SliceKind → ℕ → ℕ → List Bin
+picture_bins slice_type width height =
+    blocks_bins slice_type width height (blocks_over width * blocks_over height) 0

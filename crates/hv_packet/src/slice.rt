@@ -1,17 +1,16 @@
-//! The slice of an IDR picture in which nothing is chosen: its header, and its data.
+//! The slice of a picture in which nothing is chosen: its header, and its data.
 
-ghost use Rattle.std.specs.Prelude.{◌≡◌, ◌≢◌, ◌*◌, ◌^◌, ◌<◌, ◌≤◌, [], ◌∷◌, ◌++◌, true, false, IfOk};
+ghost use Rattle.std.specs.Prelude.{◌≡◌, ◌≢◌, ◌*◌, ◌^◌, ◌<◌, ◌≤◌, [], ◌∷◌, ◌++◌, true, false, ℕ, length, IfOk};
 ghost use Rattle.hv_types.specs.Bins.{Puts};
 ghost use Rattle.hv_stream_model.specs.Bits.{bytes_of};
 ghost use Rattle.hv_stream_model.specs.Fields.{aligned, bits_of_fields};
 ghost use Rattle.hv_stream_model.specs.Units.{last_of};
-ghost use Rattle.hv_stream_model.specs.Headers.{idr_slice as idr_slice_of};
-ghost use Rattle.hv_group_model.specs.Structure.{qp_at};
+ghost use Rattle.hv_types.specs.declared.settings.Settings.{Settings};
+ghost use Rattle.hv_stream_model.specs.Headers.{SliceHeader, slice_header_of};
 ghost use Rattle.hv_unit_model.specs.Sites.{sites};
-ghost use Rattle.hv_model.specs.Slices.{idr_header};
-ghost use Rattle.hv_model.specs.Encoding.{picture_sites, slice_data_of};
+ghost use Rattle.hv_model.specs.Encoding.{header_in, picture_sites, slice_data_of};
 ghost use Rattle.hv_model.specs.Encoding.{slice_payload as slice_payload_of};
-ghost use Rattle.hv_packet.specs.BlankBins.{bin, part_bins, prediction_bins, luma_bins};
+ghost use Rattle.hv_packet.specs.BlankBins.{bin, mode_bins, part_bins, prediction_bins, luma_bins};
 ghost use Rattle.hv_packet.specs.BlankBins.{transform_bins, unit_bins, split_bins, node_bins};
 ghost use Rattle.hv_packet.specs.BlankBins.{merge_bins, block_bins, picture_bins};
 
@@ -31,11 +30,13 @@ const CTB_SIDE: u32 = 64;
 /// The size of a node that is a whole coding tree block. A node's side is 8 << size luma samples.
 const CTB_SIZE: u8 = 3;
 
-/// The payload of the slice of a group's first picture, an IDR picture in which nothing is chosen
-/// (7.3.2.9): its header with a byte_alignment, and its data. `NoMemory` where a growth failed.
-pub fn slice_payload(alloc: Global, group: &Group) -> Result<Vec<u8>, NoMemory>
-    ensures value { IfOk result (λ payload.
-        payload.items ≡ slice_payload_of (idr_header (qp_at group.now.input.config.qp 0))
+/// The payload of the slice of a picture of a group, of which picture 0 is an IDR picture and each
+/// other one is a P picture, where nothing is chosen (7.3.2.9): its header with a byte_alignment,
+/// and its data. Pictures are numbered in output order from 0. `NoMemory` where a growth failed.
+pub fn slice_payload(alloc: Global, group: &Group, picture: u8) -> Result<Vec<u8>, NoMemory>
+    requires picture { picture < length group.now.input.pictures }
+    ensures value { IfOk result (λ payload. payload.items ≡ slice_payload_of
+        (header_in group.now.input.config (length group.now.input.pictures) picture)
         (picture_sites group.now.input.config)) }
     // as the payload of a unit has to (7.4.2)
     ensures ends { IfOk result (λ payload. last_of payload.items ≢ 0) }
@@ -44,43 +45,69 @@ pub fn slice_payload(alloc: Global, group: &Group) -> Result<Vec<u8>, NoMemory>
     aligned_bits_are_whole();
     slices_end();
     let config = group.input.config();
-    let qp = group.structure.qp(0, config.settings().qp);
-    let mut payload = header(alloc, group)?;
-    let data = slice_data(alloc, qp, config.padded_width(), config.padded_height())?;
+    let qp = group.structure.qp(picture, config.settings().qp);
+    let slice_type = kind_of(picture);
+    let mut payload = header(alloc, group, picture)?;
+    let data = slice_data(
+        alloc,
+        slice_type,
+        qp,
+        config.padded_width(),
+        config.padded_height(),
+    )?;
     payload.extend_from_slice(&data)?;
     Ok(payload)
 }
 
+/// The kind of the slice of a picture of a group.
+fn kind_of(picture: u8) -> SliceKind
+    ensures { (cfg : Settings) (count : ℕ) → result ≡ (header_in cfg count picture).slice_type }
+{
+    if picture == 0 {
+        SliceKind::I
+    } else {
+        SliceKind::P
+    }
+}
+
 /// The slice data (7.3.8.1), as a code word with zeros to the byte.
-fn slice_data(alloc: Global, qp: u8, width: u32, height: u32) -> Result<Vec<u8>, NoMemory>
+fn slice_data(
+    alloc: Global,
+    slice_type: SliceKind,
+    qp: u8,
+    width: u32,
+    height: u32,
+) -> Result<Vec<u8>, NoMemory>
     requires width_least { 8 ≤ width }
     requires width_most { width ≤ 4096 }
     requires height_least { 8 ≤ height }
     requires height_most { height ≤ 2176 }
-    ensures { IfOk result (λ bytes.
-        bytes.items ≡ bytes_of (slice_data_of (idr_header qp) (sites width height))) }
+    ensures { IfOk result (λ bytes. (header : SliceHeader) →
+        header.slice_type ≡ slice_type → header.qp ≡ qp →
+        bytes.items ≡ bytes_of (slice_data_of header (sites width height))) }
 {
     sites_are_there();
     coded_units_are_valid();
     slice_data_ends();
-    let mut encoder = Encoder::new(alloc, SliceKind::I, qp);
-    put_slice_data(&mut encoder, width, height);
+    let mut encoder = Encoder::new(alloc, slice_type, qp);
+    put_slice_data(&mut encoder, slice_type, width, height);
     encoder.finish()
 }
 
 /// slice_segment_data (7.3.8.1) of a picture of these sides in luma samples: the coding tree units
 /// of its blocks, in raster order. The last one ends the slice.
-fn put_slice_data<B: BinSink>(sink: &mut B, width: u32, height: u32)
+fn put_slice_data<B: BinSink>(sink: &mut B, slice_type: SliceKind, width: u32, height: u32)
     requires width { width ≤ 4096 }
     requires height { height ≤ 2176 }
-    ensures { Puts B.stands_for sink.old sink.new (picture_bins width height) }
+    ensures { Puts B.stands_for sink.old sink.new (picture_bins slice_type width height) }
 {
     let columns = width.div_ceil(CTB_SIDE);
     let count = columns * height.div_ceil(CTB_SIDE);
     for index in 0..count {
         let column = index % columns;
         let row = index / columns;
-        put_coding_tree_unit(sink, width, height, column, row, index + 1 == count);
+        let is_last = index + 1 == count;
+        put_coding_tree_unit(sink, slice_type, width, height, column, row, is_last);
     }
 }
 
@@ -88,6 +115,7 @@ fn put_slice_data<B: BinSink>(sink: &mut B, width: u32, height: u32)
 /// sides in luma samples, and end_of_slice_segment_flag.
 fn put_coding_tree_unit<B: BinSink>(
     sink: &mut B,
+    slice_type: SliceKind,
     width: u32,
     height: u32,
     column: u32,
@@ -97,7 +125,7 @@ fn put_coding_tree_unit<B: BinSink>(
     requires across { 64 * column < width }
     requires down { 64 * row < height }
     ensures { Puts B.stands_for sink.old sink.new
-        (block_bins width height column row is_last) }
+        (block_bins slice_type width height column row is_last) }
 {
     put_merge(sink, column > 0);
     put_merge(sink, row > 0);
@@ -105,6 +133,7 @@ fn put_coding_tree_unit<B: BinSink>(
     put_element(sink, CtxTable::SaoType, 0, false);
     put_quadtree(
         sink,
+        slice_type,
         CTB_SIZE,
         width - CTB_SIDE * column,
         height - CTB_SIDE * row,
@@ -125,9 +154,9 @@ fn put_merge<B: BinSink>(sink: &mut B, is_there: bool)
 /// and `height` say how much of the picture there is from its upper left corner on, in luma
 /// samples: a node that crosses the picture's edge is split without a flag, down to 8x8, and
 /// nothing is coded of one outside.
-fn put_quadtree<B: BinSink>(sink: &mut B, size: u8, width: u32, height: u32)
+fn put_quadtree<B: BinSink>(sink: &mut B, slice_type: SliceKind, size: u8, width: u32, height: u32)
     requires size { size ≤ 3 }
-    ensures { Puts B.stands_for sink.old sink.new (node_bins size width height) }
+    ensures { Puts B.stands_for sink.old sink.new (node_bins slice_type size width height) }
 {
     if width == 0 || height == 0 {
         return;
@@ -135,12 +164,12 @@ fn put_quadtree<B: BinSink>(sink: &mut B, size: u8, width: u32, height: u32)
     if size > 0 && (width < side(size) || height < side(size)) {
         let right = width.saturating_sub(side(size - 1));
         let below = height.saturating_sub(side(size - 1));
-        put_quadtree(sink, size - 1, width, height);
-        put_quadtree(sink, size - 1, right, height);
-        put_quadtree(sink, size - 1, width, below);
-        put_quadtree(sink, size - 1, right, below);
+        put_quadtree(sink, slice_type, size - 1, width, height);
+        put_quadtree(sink, slice_type, size - 1, right, height);
+        put_quadtree(sink, slice_type, size - 1, width, below);
+        put_quadtree(sink, slice_type, size - 1, right, below);
     } else {
-        put_coding_unit(sink, size);
+        put_coding_unit(sink, slice_type, size);
     }
 }
 
@@ -153,10 +182,11 @@ fn side(size: u8) -> u32
 }
 
 /// split_cu_flag, 0, and coding_unit (7.3.8.5) of a node of this size.
-fn put_coding_unit<B: BinSink>(sink: &mut B, size: u8)
-    ensures { Puts B.stands_for sink.old sink.new (split_bins size ++ unit_bins size) }
+fn put_coding_unit<B: BinSink>(sink: &mut B, slice_type: SliceKind, size: u8)
+    ensures { Puts B.stands_for sink.old sink.new (split_bins size ++ unit_bins slice_type size) }
 {
     put_split_flag(sink, size);
+    put_mode(sink, slice_type);
     put_part_mode(sink, size);
     put_prediction(sink);
     put_transform_tree(sink, size);
@@ -168,6 +198,19 @@ fn put_split_flag<B: BinSink>(sink: &mut B, size: u8)
 {
     if size > 0 {
         put_element(sink, CtxTable::Split, 0, false);
+    }
+}
+
+/// cu_skip_flag, 0, and pred_mode_flag, 1 for intra prediction, which P slices have alone.
+fn put_mode<B: BinSink>(sink: &mut B, slice_type: SliceKind)
+    ensures { Puts B.stands_for sink.old sink.new (mode_bins slice_type) }
+{
+    match slice_type {
+        SliceKind::I => {}
+        SliceKind::P => {
+            put_element(sink, CtxTable::Skip, 0, false);
+            put_element(sink, CtxTable::PredMode, 0, true);
+        }
     }
 }
 
@@ -221,12 +264,14 @@ fn put_element<B: BinSink>(sink: &mut B, table: CtxTable, index: u8, value: bool
 }
 
 /// The header with its byte_alignment (7.3.6.1, 7.3.2.12).
-fn header(alloc: Global, group: &Group) -> Result<Vec<u8>, NoMemory>
+fn header(alloc: Global, group: &Group, picture: u8) -> Result<Vec<u8>, NoMemory>
+    requires picture { picture < length group.now.input.pictures }
     ensures { IfOk result (λ bytes.
-        bytes.items ≡ bytes_of (aligned (bits_of_fields
-        (idr_slice_of (qp_at group.now.input.config.qp 0))))) }
+        bytes.items ≡ bytes_of (aligned (bits_of_fields (slice_header_of
+        (length group.now.input.pictures) group.now.input.config.levels
+        group.now.input.config.qp picture)))) }
 {
     let mut writer = BitWriter::new(alloc);
-    write_slice_header(&mut writer, group, 0, &[]);
+    write_slice_header(&mut writer, group, picture, &[]);
     writer.finish()
 }

@@ -10,9 +10,9 @@ use std::alloc::Global;
 use std::process::Abort;
 use std::test::Fail;
 
-/// Settings of this size and quantiser, of a group of one picture at effort 0.
-fn config_of(rt: &impl Abort, width: u32, height: u32, qp: u8) -> Config
-    ensures group { result.group ≡ 1 }
+/// Settings of this size and quantiser, of groups of so many pictures at effort 0.
+fn config_of(rt: &impl Abort, width: u32, height: u32, qp: u8, group: u8) -> Config
+    ensures group { result.group ≡ group }
     ensures effort { result.effort ≡ 0 }
 {
     let settings = Settings {
@@ -20,7 +20,7 @@ fn config_of(rt: &impl Abort, width: u32, height: u32, qp: u8) -> Config
         height,
         qp,
         levels: 0,
-        group: 1,
+        group,
         workers: 1,
         effort: 0,
         segment: 4,
@@ -44,7 +44,25 @@ fn unit_of(alloc: Global, config: &Config) -> Result<Vec<u8>, NoMemory>
         input,
         structure,
     };
-    picture_unit(alloc, &group)
+    picture_unit(alloc, &group, 0)
+}
+
+/// The unit of the second of two black pictures of a group, if there is memory for it.
+fn second_unit_of(alloc: Global, config: &Config) -> Result<Vec<u8>, NoMemory>
+    requires group { config.now.group ≡ 2 }
+    requires effort { config.now.effort ≡ 0 }
+{
+    let raw = vec![in alloc; 0; config.picture_bytes() as usize]?;
+    let mut input = GroupInput::new(alloc, *config)?;
+    input.push(&raw)?;
+    input.push(&raw)?;
+    let structure = Structure::of(alloc, 2, config.settings().levels)?;
+    let group = Group {
+        number: 0,
+        input,
+        structure,
+    };
+    picture_unit(alloc, &group, 1)
 }
 
 /// The start code, the header of a unit with an IDR picture, and what its payload begins with.
@@ -84,7 +102,7 @@ fn units_of_pictures(rt: HostRuntime) -> Result<(), Fail> {
         ]),
     ];
     for (width, height, qp, rest) in rows {
-        let config = config_of(&rt, width, height, qp);
+        let config = config_of(&rt, width, height, qp, 1);
         let unit = unit_of(rt.alloc(), &config)?;
         let got = unit.as_slice().strip_prefix(&FRONT);
         assert_eq!(rt; got, Some(rest), "{width}x{height} at {qp}");
@@ -92,11 +110,22 @@ fn units_of_pictures(rt: HostRuntime) -> Result<(), Fail> {
     Ok(())
 }
 
+/// A P picture that refers to the one before it.
+#[test]
+fn unit_of_a_second_picture(rt: HostRuntime) -> Result<(), Fail> {
+    let unit = second_unit_of(rt.alloc(), &config_of(&rt, 8, 8, 32, 2))?;
+    let known = [
+        0x00, 0x00, 0x00, 0x01, 0x02, 0x01, 0xD0, 0x09, 0x7F, 0x28, 0xE8, 0xF7, 0x52, 0x76,
+    ];
+    assert_eq!(rt; unit.as_slice(), known.as_slice());
+    Ok(())
+}
+
 /// Whichever allocation is refused, the unit is whole or want of memory is answered.
 #[test]
 fn answers_want_of_memory(rt: HostRuntime) {
     let known = [0x06, 0xB0, 0x98, 0xEF, 0xFF, 0xF0];
-    if let Ok(unit) = unit_of(rt.alloc(), &config_of(&rt, 8, 8, 0)) {
+    if let Ok(unit) = unit_of(rt.alloc(), &config_of(&rt, 8, 8, 0, 1)) {
         assert_eq!(rt;
             unit.as_slice().strip_prefix(&FRONT),
             Some(known.as_slice())

@@ -1,8 +1,9 @@
-//! The unit of a picture, which so far is the IDR picture of a group.
+//! The unit of a picture of a group.
 
-ghost use Rattle.std.specs.Prelude.{◌≡◌, length, IfOk};
-ghost use Rattle.hv_model.specs.Built.{IsBuilt};
-ghost use Rattle.hv_model.specs.Encoding.{picture_unit as picture_unit_of};
+ghost use Rattle.std.specs.Prelude.{◌≡◌, ◌<◌, ℕ, length, IfOk};
+ghost use Rattle.hv_types.specs.declared.settings.Settings.{Settings};
+ghost use Rattle.hv_model.specs.Slices.{nal_unit_type_of};
+ghost use Rattle.hv_model.specs.Encoding.{header_in, picture_unit as picture_unit_of};
 
 use crate::slice::slice_payload;
 use hv_bits::write_nal;
@@ -10,16 +11,30 @@ use hv_decision::Group;
 use hv_types::NoMemory;
 use std::alloc::Global;
 
+/// nal_unit_type of a picture that others may refer to (7.4.2.2).
+const TRAIL_R: u8 = 1;
+
 /// nal_unit_type of an IDR picture without leading pictures (7.4.2.2).
 const IDR_N_LP: u8 = 20;
 
-/// The unit of the group's first picture, which is an IDR picture, with its start code (7.3.1,
-/// Annex B). At these settings its samples change nothing. `NoMemory` where a growth failed.
-pub fn picture_unit(alloc: Global, group: &Group) -> Result<Vec<u8>, NoMemory>
-    requires built { IsBuilt group.now.input.config }
-    ensures { IfOk result (λ bytes. bytes.items ≡
-        picture_unit_of group.now.input.config (length group.now.input.pictures) 0) }
+/// The unit of a picture of the group, with its start code (7.3.1, Annex B): of type 20 for picture
+/// 0, an IDR picture, and of type 1 for each other one, a P picture. Pictures are numbered in output
+/// order from 0. At effort 0 their samples change nothing. `NoMemory` where a growth failed.
+pub fn picture_unit(alloc: Global, group: &Group, picture: u8) -> Result<Vec<u8>, NoMemory>
+    requires effort { group.now.input.config.effort ≡ 0 }
+    requires picture { picture < length group.now.input.pictures }
+    ensures { IfOk result (λ bytes. bytes.items ≡ picture_unit_of
+        group.now.input.config (length group.now.input.pictures) picture) }
 {
-    let payload = slice_payload(alloc, group)?;
-    write_nal(alloc, IDR_N_LP, 0, &payload)
+    let payload = slice_payload(alloc, group, picture)?;
+    write_nal(alloc, nal_unit_type(picture), 0, &payload)
+}
+
+/// nal_unit_type of a picture of a group.
+fn nal_unit_type(picture: u8) -> u8
+    ensures value { (cfg : Settings) (count : ℕ) →
+        result ≡ nal_unit_type_of (header_in cfg count picture) }
+    ensures most { result < 64 }
+{
+    if picture == 0 { IDR_N_LP } else { TRAIL_R }
 }

@@ -186,7 +186,7 @@ fn encode_picture(
         input,
         structure,
     };
-    let unit = picture_unit(alloc, &group)?;
+    let unit = picture_unit(alloc, &group, 0)?;
     let first = number == 0;
     if !first {
         return Ok(unit);

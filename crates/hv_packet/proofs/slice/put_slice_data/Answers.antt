@@ -9,7 +9,7 @@ use Rattle.hv_packet.proofs.slice.put_slice_data.Goals as goal
 pub loop-index-preserved : goal.loop-index-preserved
 loop-index-preserved g c =
     leaves_less g.B.BinSink.stands_for _ _ _ _ _ _ _ c.loop-index.invariant
-    (first_bins c.args.width c.args.height c.div_ceil-columns.result
+    (first_bins c.args.slice_type c.args.width c.args.height c.div_ceil-columns.result
     (c.div_ceil-columns.result * c.div_ceil.result) c.loop-index.index
     (c.div_ceil-columns.ensures ∙ blocks_counted c.args.width) c.loop-index-test.true)
     c.put_coding_tree_unit.ensures
@@ -22,7 +22,7 @@ returns g c =
     (c.div_ceil-columns.ensures ∙ blocks_counted c.args.width)
     (c.div_ceil.ensures ∙ blocks_counted c.args.height) in
     subst (λ bins. Puts g.B.BinSink.stands_for c.args.sink.now c.loop-index.sink bins)
-    (all_bins c.args.width c.args.height count whole)
+    (all_bins c.args.slice_type c.args.width c.args.height count whole)
     (leaves_nothing g.B.BinSink.stands_for _ _ _ _ c.loop-index.invariant
-    (no_bins c.args.width c.args.height _ c.loop-index.index
+    (no_bins c.args.slice_type c.args.width c.args.height _ c.loop-index.index
     (omega (arith, c.loop-index-test.false))))

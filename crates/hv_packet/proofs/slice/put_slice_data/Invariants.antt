@@ -6,4 +6,4 @@ use Rattle.hv_packet.proofs.slice.put_slice_data.Given as goal
 
 abbrev pub invariant-loop-index : goal.invariant-loop-index
 invariant-loop-index g l = Leaves g.B.BinSink.stands_for l.initial.sink l.sink
-    (blocks_bins l.width l.height (l.count - l.index) l.index) (blocks_bins l.width l.height l.count 0)
+    (blocks_bins l.slice_type l.width l.height (l.count - l.index) l.index) (blocks_bins l.slice_type l.width l.height l.count 0)

@@ -1,5 +1,5 @@
 -- How many neighbours a block has.
-use Rattle.std.proofs.Common.{◌≡◌, ℕ, zero, suc, ◌+◌, ◌-◌, ◌*◌, ◌^◌, ◌≤◌, true, refl, sym, ap, ◌∙◌, arith}
+use Rattle.std.proofs.Common.{◌≡◌, ℕ, zero, suc, ◌+◌, ◌-◌, ◌*◌, ◌^◌, ◌≤◌, true, refl, ap, ◌∙◌, arith}
 use Rattle.hv_intra.specs.Lines.{is_length_of_line}
 
 -- those of a block of 4x4 to 32x32

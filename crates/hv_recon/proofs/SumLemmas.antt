@@ -1,5 +1,5 @@
 -- A loop that adds numbers to samples, one after the other.
-use Rattle.std.proofs.Common.{◌≡◌, ℕ, zero, suc, ◌+◌, ◌<◌, List, [], ◌∷◌, ◌++◌, length, set, take, drop, get_or, refl, sym, ap, subst, ◌∙◌, arith, ℤ, pos, ◌+ℤ◌}
+use Rattle.std.proofs.Common.{◌≡◌, ℕ, zero, suc, ◌<◌, List, [], ◌∷◌, ◌++◌, length, set, take, drop, get_or, refl, ap, arith, ℤ, pos, ◌+ℤ◌}
 use Rattle.hv_lemmas.specs.Clipping.{clip1}
 use Rattle.hv_recon_model.specs.Reconstruction.{sum_of}
 

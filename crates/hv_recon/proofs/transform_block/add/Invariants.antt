@@ -1,4 +1,4 @@
-use Rattle.std.proofs.Common.{◌≡◌, length}
+use Rattle.std.proofs.Common.{◌≡◌}
 use Rattle.hv_recon.proofs.SumLemmas.{summed}
 use Rattle.hv_recon.proofs.transform_block.add.Given as goal
 

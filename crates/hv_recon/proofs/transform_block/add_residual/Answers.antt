@@ -1,4 +1,4 @@
-use Rattle.std.proofs.Common.{◌≡◌, ap, ◌∙◌, List, ℤ}
+use Rattle.std.proofs.Common.{ap, ◌∙◌, List, ℤ}
 use Rattle.hv_sample_model.specs.InverseTransform.{inverse_transformed, residual}
 use Rattle.hv_recon_model.specs.Reconstruction.{sum_of}
 use Rattle.hv_recon.proofs.transform_block.add_residual.Goals as goal

@@ -1,4 +1,4 @@
-use Rattle.std.proofs.Common.{◌≡◌, length}
+use Rattle.std.proofs.Common.{length}
 use Rattle.hv_recon.proofs.LineLemmas.{line_of_block}
 use Rattle.hv_recon.proofs.transform_block.rebuild_intra.Goals as goal
 

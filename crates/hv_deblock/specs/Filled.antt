@@ -55,13 +55,11 @@ side_behind samples x y = record {
 -- A plane of the same sides: the samples of a rectangle are f x y, and every other one is as
 -- before.
 pub record IsFilled
-    (direction : Direction) (left right top bottom : ℕ) (f : Samples)
-    (old new : Plane) : Type 0 where
+    (direction : Direction) (left right top bottom : ℕ) (f : Samples) (old new : Plane) : Type 0 where
   pub wide : new.width ≡ old.width
   pub high : new.height ≡ old.height
   pub whole : IsWhole new
-  pub inside :
-      (x y : ℕ) → left ≤ x → x < right → top ≤ y → y < bottom →
+  pub inside : (x y : ℕ) → left ≤ x → x < right → top ≤ y → y < bottom →
       x < columns_of direction old → y < rows_of direction old →
       samples_of direction new x y ≡ f x y
   pub before : (x y : ℕ) → x < left → x < columns_of direction old → y < rows_of direction old →

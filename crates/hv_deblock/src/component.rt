@@ -17,8 +17,8 @@ pub(crate) enum Component {
 }
 
 impl Component {
-    /// Whether any of four lines may change, by the quantiser of luma, the strength of the edge, and
-    /// the first and the last of the lines.
+    /// Whether any of four lines may change, by the quantiser of luma, the strength of the edge,
+    /// and the first and the last of the lines.
     #[inline(always)]
     pub(crate) fn changes(self, qp: u8, strength: u8, first: Line, last: Line) -> bool
         requires { qp ≤ 51 }

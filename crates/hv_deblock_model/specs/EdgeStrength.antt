@@ -30,9 +30,8 @@ vectors_differ a b =
 abbrev pub motion_strength : Pred → Pred → ℕ
 motion_strength (Intra mode) _ = 2
 motion_strength (Inter reference mv flag mvd) (Intra mode) = 2
-motion_strength (Inter reference mv flag mvd)
-    (Inter other_reference other_mv other_flag other_mvd) =
-    cond (not (nat_eq reference other_reference) || vectors_differ mv other_mv) 1 0
+motion_strength (Inter reference mv flag mvd) (Inter other vector other_flag other_mvd) =
+    cond (not (nat_eq reference other) || vectors_differ mv vector) 1 0
 
 -- with the levels of the transform blocks at both sides: nothing is less than one where there are
 -- some

@@ -18,8 +18,8 @@ const TRAIL_R: u8 = 1;
 const IDR_N_LP: u8 = 20;
 
 /// The unit of a picture of the group, with its start code (7.3.1, Annex B): of type 20 for picture
-/// 0, an IDR picture, and of type 1 for each other one, a P picture. Pictures are numbered in output
-/// order from 0. At effort 0 their samples change nothing. `NoMemory` where a growth failed.
+/// 0, an IDR picture, and of type 1 for each other one, a P picture. Pictures are numbered in
+/// output order from 0. At effort 0 their samples change nothing. `NoMemory` where a growth failed.
 pub fn picture_unit(alloc: Global, group: &Group, picture: u8) -> Result<Vec<u8>, NoMemory>
     requires effort { group.now.input.config.effort ≡ 0 }
     requires picture { picture < length group.now.input.pictures }

@@ -55,7 +55,8 @@ side_behind samples x y = record {
 -- A plane of the same sides: the samples of a rectangle are f x y, and every other one is as
 -- before.
 pub record IsFilled
-    (direction : Direction) (left right top bottom : ℕ) (f : Samples) (old new : Plane) : Type 0 where
+    (direction : Direction) (left right top bottom : ℕ) (f : Samples)
+    (old new : Plane) : Type 0 where
   pub wide : new.width ≡ old.width
   pub high : new.height ≡ old.height
   pub whole : IsWhole new

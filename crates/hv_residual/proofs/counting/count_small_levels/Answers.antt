@@ -1,7 +1,8 @@
 use Rattle.std.proofs.Common.{◌≡◌, ◌∙◌, get_or, pos, rules, arith}
 use Rattle.std.specs.Int.RustNames.{unsigned_abs}
+use Rattle.hv_lemmas.proofs.BooleanLemmas.{one_at_most}
 use Rattle.hv_residual_model.specs.ResidualBins.{is_significant}
-use Rattle.hv_residual.proofs.SignificanceLemmas.{one_of, one_most}
+use Rattle.hv_residual.proofs.SignificanceLemmas.{one_of}
 use Rattle.hv_residual.proofs.SmallLevelLemmas.{small_level_count, one_small, small_step, small_end}
 use Rattle.hv_residual.proofs.counting.count_small_levels.Goals as goal
 
@@ -14,7 +15,7 @@ loop-level-preserved c =
     let one = c.from.ensures ∙ one_of c.is_significant.result in
     let small = one_small levels i c.loop-level-test.true c.requires.small in
     record {
-      most = omega (arith, c.loop-level.invariant.most, em, small, one, one_most c.is_significant.result);
+      most = omega (arith, c.loop-level.invariant.most, em, small, one, one_at_most c.is_significant.result);
       value = small_step levels i c.loop-level.total c.unsigned_abs.result c.from.result
           c.is_significant.result c.loop-level-test.true em eb one c.loop-level.invariant.value;
     }

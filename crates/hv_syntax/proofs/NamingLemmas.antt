@@ -3,14 +3,16 @@ use Rattle.std.proofs.Common.{◌≡◌, ℕ, zero, suc, ◌+◌, ◌-◌, ◌*�
 use Rattle.std.specs.Prelude.{slice_get, slice_index_or, Option, Some, None, ◌⊎◌}
 use Rattle.std.proofs.lemmas.Bool.{cases_lt, true≢false}
 use Rattle.std.proofs.lemmas.List.{get_or-replicate}
+use Rattle.std.proofs.lemmas.Option.{slice_get-get_or}
+use Rattle.hv_block.specs.Plans.{opening_unit}
 use Rattle.hv_plan.specs.declared.prediction.Unit.{Unit}
-use Rattle.hv_unit_model.specs.Trees.{Prediction, TransformUnit, Leaf, depth_of, log2TrafoSize, transform_units}
+use Rattle.hv_unit_model.specs.Trees.{Prediction, TransformUnit, Leaf, Outside, depth_of, log2TrafoSize, transform_units}
 use Rattle.hv_unit_model.specs.Sites.{Site, squares, is_outside}
 use Rattle.hv_unit_model.specs.EarlierUnits.{Square, Unavailable, Coded, squares_of}
-use Rattle.hv_unit_model.specs.Plans.{Plan, prediction_of, coded_square, transform_units_at, tree_at}
+use Rattle.hv_unit_model.specs.Plans.{Plan, prediction_of, coded_square, square_or_none, transform_units_at, tree_at}
 use Rattle.hv_syntax.specs.Blocks.{ends}
 use Rattle.hv_syntax.specs.Squares.{own_square, NamesNode}
-use Rattle.hv_syntax.proofs.NodeLemmas.{leaf_tree, split_tree, size_of_split, length_node, four_at}
+use Rattle.hv_syntax.proofs.NodeLemmas.{outside_tree, leaf_tree, split_tree, size_of_split, length_node, four_at, some_squares}
 
 -- ---- a row of squares by the first and the others
 pub each_from : (P : ℕ → Type 0) (from count : ℕ) → P from →
@@ -20,6 +22,26 @@ each_from P from count first rest zero h =
 each_from P from count first rest (suc i) h =
     let e : from + 1 + i ≡ from + suc i = omega arith in subst P e (rest i (omega (arith, h)))
 
+pub others_of : (P : ℕ → Type 0) (from count : ℕ) → ((i : ℕ) → i < count → P (from + i)) →
+    (i : ℕ) → i < count - 1 → P (from + 1 + i)
+others_of P from count all i h =
+    let e : from + suc i ≡ from + 1 + i = omega arith in
+    subst P e (all (suc i) (omega (arith, h)))
+
+-- ---- what is known of a square
+abbrev is_there : Square → Bool
+is_there Unavailable = false
+is_there (Coded depth prediction) = true
+
+abbrev depth_in : Square → ℕ
+depth_in Unavailable = zero
+depth_in (Coded depth prediction) = depth
+
+own_is_there : (plan : Plan) (address : ℕ) → address < length plan.units →
+    is_there (own_square plan address) ≡ true
+own_is_there plan address h =
+    ap (λ o. is_there (square_or_none o)) (slice_get-get_or plan.units address opening_unit h)
+
 -- ---- a node outside the picture
 pub names_outside : (site : Site) (plan : Plan) (size address : ℕ) →
     ((i : ℕ) → i < squares size → is_outside site (address + i) ≡ true) →
@@ -27,6 +49,33 @@ pub names_outside : (site : Site) (plan : Plan) (size address : ℕ) →
 names_outside site plan size address k = record {
   square = λ i h inside. absurd (true≢false (sym (k i h) ∙ inside));
 }
+
+outside_squares : (size : ℕ) → squares_of size Outside ≡ replicate (squares size) Unavailable
+outside_squares zero = refl
+outside_squares (suc size) = refl
+
+inside_is_none : (site : Site) (plan : Plan) (size address i : ℕ) (b : Bool) →
+    length plan.units ≡ 64 → address + squares size ≤ 64 → is_outside site address ≡ true →
+    NamesNode site plan size address → i < squares size → is_outside site (address + i) ≡ b →
+    b ≡ true
+inside_is_none site plan size address i true all room outside names h e = refl
+inside_is_none site plan size address i false all room outside names h e =
+    let at : List Square → Square = λ l. slice_index_or l i Unavailable in
+    let is_none : own_square plan (address + i) ≡ Unavailable =
+    sym (names.square i h e) ∙
+    ap (λ t. at (squares_of size t)) (outside_tree site plan size address outside) ∙
+    ap at (outside_squares size) ∙
+    get_or-replicate (squares size) i Unavailable Unavailable h in
+    absurd (true≢false (sym (own_is_there plan (address + i) (omega (arith, all, room, h))) ∙
+    ap is_there is_none))
+
+pub outside_of_names : (site : Site) (plan : Plan) (size address : ℕ) → length plan.units ≡ 64 →
+    address + squares size ≤ 64 → is_outside site address ≡ true →
+    NamesNode site plan size address →
+    (i : ℕ) → i < squares size → is_outside site (address + i) ≡ true
+outside_of_names site plan size address all room outside names i h =
+    inside_is_none site plan size address i (is_outside site (address + i)) all room outside names h
+    refl
 
 -- ---- a coding unit
 leaf_squares : (size : ℕ) (p : Prediction) (units : List TransformUnit) →
@@ -50,6 +99,39 @@ names_leaf site plan size address u outside there leaf depth same = record {
       ap (λ d. Coded d (prediction_of u.pred)) (sym depth) ∙
       sym (same i h inside);
 }
+
+named_square : (site : Site) (plan : Plan) (size address : ℕ) (u : Unit) →
+    is_outside site address ≡ false → slice_get plan.units address ≡ Some u →
+    ends size u.depth ≡ true → NamesNode site plan size address →
+    (i : ℕ) → i < squares size → is_outside site (address + i) ≡ false →
+    own_square plan (address + i) ≡ Coded (depth_of size) (prediction_of u.pred)
+named_square site plan size address u outside there leaf names i h inside =
+    let at : List Square → Square = λ l. slice_index_or l i Unavailable in
+    sym (names.square i h inside) ∙
+    ap (λ t. at (squares_of size t)) (leaf_tree site plan size address u outside there leaf) ∙
+    ap at (leaf_squares size (prediction_of u.pred)
+    (transform_units_at plan (log2TrafoSize size) address (transform_units size))) ∙
+    get_or-replicate (squares size) i (Coded (depth_of size) (prediction_of u.pred)) Unavailable h
+
+pub depth_of_names : (site : Site) (plan : Plan) (size address : ℕ) (u : Unit) →
+    is_outside site address ≡ false → slice_get plan.units address ≡ Some u →
+    ends size u.depth ≡ true → NamesNode site plan size address → u.depth ≡ depth_of size
+depth_of_names site plan size address u outside there leaf names =
+    let e : address + zero ≡ address = omega arith in
+    ap (λ o. depth_in (square_or_none o)) (sym there) ∙
+    ap (λ (a : ℕ). depth_in (own_square plan a)) (sym e) ∙
+    ap depth_in (named_square site plan size address u outside there leaf names zero
+    (some_squares size) (subst (λ (a : ℕ). is_outside site a ≡ false) (sym e) outside))
+
+pub squares_of_names : (site : Site) (plan : Plan) (size address : ℕ) (u : Unit) →
+    is_outside site address ≡ false → slice_get plan.units address ≡ Some u →
+    ends size u.depth ≡ true → NamesNode site plan size address →
+    (i : ℕ) → i < squares size → is_outside site (address + i) ≡ false →
+    own_square plan (address + i) ≡ coded_square u
+squares_of_names site plan size address u outside there leaf names i h inside =
+    named_square site plan size address u outside there leaf names i h inside ∙
+    ap (λ d. Coded d (prediction_of u.pred))
+    (sym (depth_of_names site plan size address u outside there leaf names))
 
 -- ---- a node that is split
 part_at : (site : Site) (plan : Plan) (size address shift i : ℕ) (all : List Square) → shift ≤ i →

@@ -181,96 +181,96 @@ four_at n xs ys zs ws e f g i h =
     )
 
 -- a part's units name its squares
-pub record NameParts (b : Block) (size address : ℕ) : Type 0 where
-  pub first : NamesNode (place_of b) (plan_of b) size address
-  pub second : NamesNode (place_of b) (plan_of b) size (address + squares size)
-  pub third : NamesNode (place_of b) (plan_of b) size (address + 2 * squares size)
-  pub fourth : NamesNode (place_of b) (plan_of b) size (address + 3 * squares size)
+pub record NameParts (site : Site) (p : Plan) (size address : ℕ) : Type 0 where
+  pub first : NamesNode site p size address
+  pub second : NamesNode site p size (address + squares size)
+  pub third : NamesNode site p size (address + 2 * squares size)
+  pub fourth : NamesNode site p size (address + 3 * squares size)
 
-part_named : (b : Block) (size address start shift : ℕ) (all : List Square) →
+part_named : (site : Site) (p : Plan) (size address start shift : ℕ) (all : List Square) →
     start ≡ address + shift → shift ≤ 3 * squares size →
-    ((i : ℕ) → i < 4 * squares size → is_outside (place_of b) (address + i) ≡ false →
-    slice_index_or all i Unavailable ≡ own_square (plan_of b) (address + i)) →
+    ((i : ℕ) → i < 4 * squares size → is_outside site (address + i) ≡ false →
+    slice_index_or all i Unavailable ≡ own_square p (address + i)) →
     ((i : ℕ) → i < squares size → slice_index_or all (shift + i) Unavailable ≡
-    slice_index_or (squares_of size (node_of b size start)) i Unavailable) →
-    NamesNode (place_of b) (plan_of b) size start
-part_named b size address start shift all e few names same = record {
+    slice_index_or (squares_of size (tree_at site p size start)) i Unavailable) →
+    NamesNode site p size start
+part_named site p size address start shift all e few names same = record {
   square = λ i h inside.
       let at : start + i ≡ address + (shift + i) = omega (arith, e) in
       sym (same i h) ∙
       names (shift + i) (omega (arith, h, few))
-      (subst (λ (m : ℕ). is_outside (place_of b) m ≡ false) at inside) ∙
-      ap (own_square (plan_of b)) (sym at);
+      (subst (λ (m : ℕ). is_outside site m ≡ false) at inside) ∙
+      ap (own_square p) (sym at);
 }
 
-pub names_parts : (b : Block) (size address : ℕ) (u : Unit) → is_outside (place_of b) address ≡ false →
-    slice_get b.plan.units.now address ≡ Some u → ends (suc size) u.depth ≡ false →
-    NamesNode (place_of b) (plan_of b) (suc size) address → NameParts b size address
-names_parts b size address u h g e names =
+pub names_parts : (site : Site) (p : Plan) (size address : ℕ) (u : Unit) → is_outside site address ≡ false →
+    slice_get p.units address ≡ Some u → ends (suc size) u.depth ≡ false →
+    NamesNode site p (suc size) address → NameParts site p size address
+names_parts site p size address u h g e names =
     let n : ℕ = squares size in
-    let tree : ℕ → Tree = node_of b size in
+    let tree : ℕ → Tree = tree_at site p size in
     let at : ℕ → List Square = λ a. squares_of size (tree a) in
     let count : (a : ℕ) → length (at a) ≡ squares size =
-    λ a. length_node (place_of b) (plan_of b) size a in
+    λ a. length_node site p size a in
     let whole : List Square = at address ++ (at (address + n) ++ (at (address + 2 * n) ++
     at (address + 3 * n))) in
-    let is_whole : squares_of (suc size) (node_of b (suc size) address) ≡ whole =
-    ap (squares_of (suc size)) (split_tree (place_of b) (plan_of b) size address u h g e) in
-    let named : (i : ℕ) → i < 4 * squares size → is_outside (place_of b) (address + i) ≡ false →
-    slice_index_or whole i Unavailable ≡ own_square (plan_of b) (address + i) =
+    let is_whole : squares_of (suc size) (tree_at site p (suc size) address) ≡ whole =
+    ap (squares_of (suc size)) (split_tree site p size address u h g e) in
+    let named : (i : ℕ) → i < 4 * squares size → is_outside site (address + i) ≡ false →
+    slice_index_or whole i Unavailable ≡ own_square p (address + i) =
     λ i k inside. ap (λ (l : List Square). slice_index_or l i Unavailable) (sym is_whole) ∙
     names.square i k inside in
     let four = four_at n (at address) (at (address + n)) (at (address + 2 * n))
     (at (address + 3 * n)) (count address) (count (address + n)) (count (address + 2 * n)) in
     record {
-      first = part_named b size address address 0 whole (omega arith) (omega arith) named
+      first = part_named site p size address address 0 whole (omega arith) (omega arith) named
           (λ i k. let z : 0 + i ≡ i = omega arith in
           ap (λ (j : ℕ). slice_index_or whole j Unavailable) z ∙ (four i k).0);
-      second = part_named b size address (address + n) n whole refl (omega arith) named
+      second = part_named site p size address (address + n) n whole refl (omega arith) named
           (λ i k. (four i k).1);
-      third = part_named b size address (address + 2 * n) (2 * n) whole refl (omega arith) named
+      third = part_named site p size address (address + 2 * n) (2 * n) whole refl (omega arith) named
           (λ i k. (four i k).2);
-      fourth = part_named b size address (address + 3 * n) (3 * n) whole refl (omega arith) named
+      fourth = part_named site p size address (address + 3 * n) (3 * n) whole refl (omega arith) named
           (λ i k. (four i k).3);
     }
 
 -- ---- the four nodes of a split by the code's step
-pub record Children (b : Block) (below step address : ℕ) : Type 0 where
+pub record Children (site : Site) (p : Plan) (below step address : ℕ) : Type 0 where
   pub room : address + 4 * step ≤ 64
   pub some : 1 ≤ step
-  pub first : NamesNode (place_of b) (plan_of b) below address
-  pub second : NamesNode (place_of b) (plan_of b) below (address + step)
-  pub third : NamesNode (place_of b) (plan_of b) below (address + 2 * step)
-  pub fourth : NamesNode (place_of b) (plan_of b) below (address + 3 * step)
+  pub first : NamesNode site p below address
+  pub second : NamesNode site p below (address + step)
+  pub third : NamesNode site p below (address + 2 * step)
+  pub fourth : NamesNode site p below (address + 3 * step)
 
 pub some_squares : (size : ℕ) → 1 ≤ squares size
 some_squares zero = omega arith
 some_squares (suc size) = omega (arith, some_squares size)
 
-abbrev HasChildren : Block → ℕ → ℕ → ℕ → Unit → ℕ → Type 0
-HasChildren b below step address u size =
-    step ≡ squares below → is_outside (place_of b) address ≡ false →
-    slice_get b.plan.units.now address ≡ Some u → ends size u.depth ≡ false →
-    address + squares size ≤ 64 → NamesNode (place_of b) (plan_of b) size address → Children b below step address
+abbrev HasChildren : Site → Plan → ℕ → ℕ → ℕ → Unit → ℕ → Type 0
+HasChildren site p below step address u size =
+    step ≡ squares below → is_outside site address ≡ false →
+    slice_get p.units address ≡ Some u → ends size u.depth ≡ false →
+    address + squares size ≤ 64 → NamesNode site p size address → Children site p below step address
 
-children_of : (b : Block) (below step address : ℕ) (u : Unit) →
-    HasChildren b below step address u (suc below)
-children_of b below step address u is_step inside at split room names =
-    let parts = names_parts b below address u inside at split names in
+children_of : (site : Site) (p : Plan) (below step address : ℕ) (u : Unit) →
+    HasChildren site p below step address u (suc below)
+children_of site p below step address u is_step inside at split room names =
+    let parts = names_parts site p below address u inside at split names in
     record {
       room = omega (arith, room, is_step);
       some = omega (arith, some_squares below, is_step);
       first = parts.first;
-      second = subst (λ (n : ℕ). NamesNode (place_of b) (plan_of b) below (address + n)) (sym is_step) parts.second;
-      third = subst (λ (n : ℕ). NamesNode (place_of b) (plan_of b) below (address + 2 * n)) (sym is_step) parts.third;
-      fourth = subst (λ (n : ℕ). NamesNode (place_of b) (plan_of b) below (address + 3 * n)) (sym is_step) parts.fourth;
+      second = subst (λ (n : ℕ). NamesNode site p below (address + n)) (sym is_step) parts.second;
+      third = subst (λ (n : ℕ). NamesNode site p below (address + 2 * n)) (sym is_step) parts.third;
+      fourth = subst (λ (n : ℕ). NamesNode site p below (address + 3 * n)) (sym is_step) parts.fourth;
     }
 
-pub children : (b : Block) (size step address : ℕ) (u : Unit) → step ≡ squares (size - 1) →
-    is_outside (place_of b) address ≡ false → slice_get b.plan.units.now address ≡ Some u →
-    ends size u.depth ≡ false → address + squares size ≤ 64 → NamesNode (place_of b) (plan_of b) size address →
-    Children b (size - 1) step address
-children b size step address u is_step inside at split room names =
-    subst (λ (n : ℕ). HasChildren b (size - 1) step address u n)
-    (sym (size_of_split size u.depth split)) (children_of b (size - 1) step address u) is_step inside
+pub children : (site : Site) (p : Plan) (size step address : ℕ) (u : Unit) → step ≡ squares (size - 1) →
+    is_outside site address ≡ false → slice_get p.units address ≡ Some u →
+    ends size u.depth ≡ false → address + squares size ≤ 64 → NamesNode site p size address →
+    Children site p (size - 1) step address
+children site p size step address u is_step inside at split room names =
+    subst (λ (n : ℕ). HasChildren site p (size - 1) step address u n)
+    (sym (size_of_split size u.depth split)) (children_of site p (size - 1) step address u) is_step inside
     at split room names

@@ -75,7 +75,7 @@ puts_split_of : {S : Type 0} (stands : Stands S) (a0 a1 a2 a3 a4 a5 : S) (b : Bl
 puts_split_of {S} stands a0 a1 a2 a3 a4 a5 b s size step address earlier u is_step inside at split names sees shows
     p0 p1 p2 p3 p4 =
     let n : ℕ = squares size in
-    let parts = names_parts b size address u inside at split names in
+    let parts = names_parts (place_of b) (plan_of b) size address u inside at split names in
     let t : ℕ → Tree = node_of b size in
     let e1 : List Square = after size earlier (t address) in
     let e2 : List Square = after size e1 (t (address + n)) in

@@ -17,14 +17,16 @@ use hv_plan::{Mv, Place, Pred, Unit};
 
 /// Whether two vectors are the same.
 fn is_same(a: Mv, b: Mv) -> bool
-    ensures { result ≡ true → a ≡ b }
+    ensures same { result ≡ true → a ≡ b }
+    ensures only { a ≡ b → result ≡ true }
 {
     a.x == b.x && a.y == b.y
 }
 
 /// Whether what is coded of two predictions is the same.
 fn is_coded_alike(a: Pred, b: Pred) -> bool
-    ensures { result ≡ true → prediction_of a ≡ prediction_of b }
+    ensures same { result ≡ true → prediction_of a ≡ prediction_of b }
+    ensures only { prediction_of a ≡ prediction_of b → result ≡ true }
 {
     match a {
         Pred::Intra { mode } => match b {
@@ -51,8 +53,10 @@ fn is_coded_alike(a: Pred, b: Pred) -> bool
 /// Whether a square is coded as this unit is, or is outside the picture.
 fn has_unit(site: &Site, plan: &Plan, address: u8, unit: Unit) -> bool
     requires { address < 64 }
-    ensures { result ≡ true → is_outside site.now.place address ≡ false →
+    ensures same { result ≡ true → is_outside site.now.place address ≡ false →
         own_square (lists_of plan.now) address ≡ coded_square unit }
+    ensures only { (is_outside site.now.place address ≡ false →
+        own_square (lists_of plan.now) address ≡ coded_square unit) → result ≡ true }
 {
     if is_outside(site, address) {
         return true;
@@ -65,9 +69,11 @@ fn has_unit(site: &Site, plan: &Plan, address: u8, unit: Unit) -> bool
 /// picture.
 fn have_unit(site: &Site, plan: &Plan, from: u8, count: u8, unit: Unit) -> bool
     requires { from + count ≤ 64 }
-    ensures { result ≡ true → (i : ℕ) → i < count →
+    ensures same { result ≡ true → (i : ℕ) → i < count →
         is_outside site.now.place (from + i) ≡ false →
         own_square (lists_of plan.now) (from + i) ≡ coded_square unit }
+    ensures only { ((i : ℕ) → i < count → is_outside site.now.place (from + i) ≡ false →
+        own_square (lists_of plan.now) (from + i) ≡ coded_square unit) → result ≡ true }
 {
     if count == 0 {
         return true;
@@ -81,8 +87,10 @@ fn have_unit(site: &Site, plan: &Plan, from: u8, count: u8, unit: Unit) -> bool
 /// Whether so many squares from an address on are outside the picture.
 fn are_outside(site: &Site, from: u8, count: u8) -> bool
     requires { from + count ≤ 64 }
-    ensures { result ≡ true → (i : ℕ) → i < count →
+    ensures outside { result ≡ true → (i : ℕ) → i < count →
         is_outside site.now.place (from + i) ≡ true }
+    ensures only { ((i : ℕ) → i < count → is_outside site.now.place (from + i) ≡ true) →
+        result ≡ true }
 {
     if count == 0 {
         return true;
@@ -114,7 +122,8 @@ fn names_leaf(site: &Site, plan: &Plan, size: u8, address: u8, unit: Unit) -> bo
     requires begins { is_outside site.now.place address ≡ false }
     requires first { slice_get plan.now.units.now address ≡ Some unit }
     requires leaf { ends size unit.depth ≡ true }
-    ensures { result ≡ true → NamesNode site.now.place (lists_of plan.now) size address }
+    ensures names { result ≡ true → NamesNode site.now.place (lists_of plan.now) size address }
+    ensures only { NamesNode site.now.place (lists_of plan.now) size address → result ≡ true }
 {
     if unit.depth != 3 - size {
         return false;
@@ -127,7 +136,8 @@ fn names_node(site: &Site, plan: &Plan, size: u8, address: u8) -> bool
     requires size { size ≤ 3 }
     requires inside { address + squares size ≤ 64 }
     requires address { address < 64 }
-    ensures { result ≡ true → NamesNode site.now.place (lists_of plan.now) size address }
+    ensures names { result ≡ true → NamesNode site.now.place (lists_of plan.now) size address }
+    ensures only { NamesNode site.now.place (lists_of plan.now) size address → result ≡ true }
 {
     if is_outside(site, address) {
         return are_outside(site, address, squares_of(size));
@@ -158,12 +168,13 @@ fn first_unit(plan: &Plan, address: u8) -> Unit
     plan.units[usize::from(address)]
 }
 
-/// Whether the plan names its coding units at this place, as `put_ctb` asks: true only where each
-/// unit inside the picture is coded as that of the first square of its coding unit, and has the
-/// depth of the quadtree there. The picture has a column of luma samples at least.
+/// Whether the plan names its coding units at this place, as `put_ctb` asks: true exactly where
+/// each unit inside the picture is coded as that of the first square of its coding unit, and has
+/// the depth of the quadtree there. The picture has a column of luma samples at least.
 pub fn names_its_units(place: Place, plan: &CtbPlan) -> bool
     requires { 0 < place.width }
-    ensures { result ≡ true → NamesItsUnits place (lists_of_plan plan.now) }
+    ensures names { result ≡ true → NamesItsUnits place (lists_of_plan plan.now) }
+    ensures only { NamesItsUnits place (lists_of_plan plan.now) → result ≡ true }
 {
     names_node(&Site::of(place), &view(plan), 3, 0)
 }

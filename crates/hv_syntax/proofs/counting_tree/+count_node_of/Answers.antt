@@ -1,6 +1,6 @@
 use Rattle.std.proofs.Common.{◌≡◌, ℕ, ◌+◌, ◌-◌, ◌*◌, ◌∙◌, sym, true, length, arith}
 use Rattle.hv_unit_model.specs.Bins.{split_bins, bins_of_node}
-use Rattle.hv_syntax.specs.Blocks.{node_of}
+use Rattle.hv_syntax.specs.Blocks.{node_of, place_of, plan_of}
 use Rattle.hv_syntax.proofs.NodeLemmas.{size_of_split, some_squares, children}
 use Rattle.hv_syntax.proofs.QuadtreeLemmas.{puts_split}
 use Rattle.hv_syntax.proofs.CountedLemmas.{counts, puts_count, count_put, count_outside, count_node_of_leaf}
@@ -33,7 +33,8 @@ count_node_of-first-requires t c =
     let split = sym c.is_leaf.ensures ∙ c.if-is_leaf.false in
     let e = size_of_split c.args.size depth split in
     let step = c.squares-step.ensures.value in
-    let k = children b c.args.size c.squares-step.result c.args.address c.own_unit-unit.result step
+    let k = children (place_of b) (plan_of b) c.args.size c.squares-step.result c.args.address
+    c.own_unit-unit.result step
     (sym c.is_outside.ensures ∙ c.if-is_outside.false) c.own_unit-unit.ensures split
     c.requires.inside c.requires.names in
     let room = k.room in
@@ -52,7 +53,8 @@ count_node_of-second-requires t c =
     let split = sym c.is_leaf.ensures ∙ c.if-is_leaf.false in
     let e = size_of_split c.args.size depth split in
     let step = c.squares-step.ensures.value in
-    let k = children b c.args.size c.squares-step.result c.args.address c.own_unit-unit.result step
+    let k = children (place_of b) (plan_of b) c.args.size c.squares-step.result c.args.address
+    c.own_unit-unit.result step
     (sym c.is_outside.ensures ∙ c.if-is_outside.false) c.own_unit-unit.ensures split
     c.requires.inside c.requires.names in
     let room = k.room in
@@ -71,7 +73,8 @@ count_node_of-third-requires t c =
     let split = sym c.is_leaf.ensures ∙ c.if-is_leaf.false in
     let e = size_of_split c.args.size depth split in
     let step = c.squares-step.ensures.value in
-    let k = children b c.args.size c.squares-step.result c.args.address c.own_unit-unit.result step
+    let k = children (place_of b) (plan_of b) c.args.size c.squares-step.result c.args.address
+    c.own_unit-unit.result step
     (sym c.is_outside.ensures ∙ c.if-is_outside.false) c.own_unit-unit.ensures split
     c.requires.inside c.requires.names in
     let room = k.room in
@@ -90,7 +93,8 @@ count_node_of-fourth-requires t c =
     let split = sym c.is_leaf.ensures ∙ c.if-is_leaf.false in
     let e = size_of_split c.args.size depth split in
     let step = c.squares-step.ensures.value in
-    let k = children b c.args.size c.squares-step.result c.args.address c.own_unit-unit.result step
+    let k = children (place_of b) (plan_of b) c.args.size c.squares-step.result c.args.address
+    c.own_unit-unit.result step
     (sym c.is_outside.ensures ∙ c.if-is_outside.false) c.own_unit-unit.ensures split
     c.requires.inside c.requires.names in
     let room = k.room in

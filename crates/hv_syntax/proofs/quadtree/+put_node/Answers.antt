@@ -1,4 +1,5 @@
 use Rattle.std.proofs.Common.{◌∙◌, sym, arith}
+use Rattle.hv_syntax.specs.Blocks.{place_of, plan_of}
 use Rattle.hv_syntax.proofs.NodeLemmas.{size_of_split, children}
 use Rattle.hv_syntax.proofs.QuadtreeLemmas.{puts_outside, puts_node_of_leaf, puts_split}
 use Rattle.hv_syntax.proofs.quadtree.+put_node.Goals as goal
@@ -23,7 +24,8 @@ put_node-requires g t c κs within =
     let split = sym c.is_leaf.ensures ∙ c.if-is_leaf.false in
     let e = size_of_split c.args.size depth split in
     let step = c.squares-step.ensures.value in
-    let k = children b c.args.size c.squares-step.result c.args.address c.own_unit-unit.result step
+    let k = children (place_of b) (plan_of b) c.args.size c.squares-step.result c.args.address
+    c.own_unit-unit.result step
     (sym c.is_outside.ensures ∙ c.if-is_outside.false) c.own_unit-unit.ensures split
     c.requires.inside c.requires.names in
     let room = k.room in
@@ -37,7 +39,8 @@ put_node-requires-2 g t c κs within =
     let split = sym c.is_leaf.ensures ∙ c.if-is_leaf.false in
     let e = size_of_split c.args.size depth split in
     let step = c.squares-step.ensures.value in
-    let k = children b c.args.size c.squares-step.result c.args.address c.own_unit-unit.result step
+    let k = children (place_of b) (plan_of b) c.args.size c.squares-step.result c.args.address
+    c.own_unit-unit.result step
     (sym c.is_outside.ensures ∙ c.if-is_outside.false) c.own_unit-unit.ensures split
     c.requires.inside c.requires.names in
     let room = k.room in
@@ -51,7 +54,8 @@ put_node-requires-3 g t c κs within =
     let split = sym c.is_leaf.ensures ∙ c.if-is_leaf.false in
     let e = size_of_split c.args.size depth split in
     let step = c.squares-step.ensures.value in
-    let k = children b c.args.size c.squares-step.result c.args.address c.own_unit-unit.result step
+    let k = children (place_of b) (plan_of b) c.args.size c.squares-step.result c.args.address
+    c.own_unit-unit.result step
     (sym c.is_outside.ensures ∙ c.if-is_outside.false) c.own_unit-unit.ensures split
     c.requires.inside c.requires.names in
     let room = k.room in
@@ -65,7 +69,8 @@ put_node-requires-4 g t c κs within =
     let split = sym c.is_leaf.ensures ∙ c.if-is_leaf.false in
     let e = size_of_split c.args.size depth split in
     let step = c.squares-step.ensures.value in
-    let k = children b c.args.size c.squares-step.result c.args.address c.own_unit-unit.result step
+    let k = children (place_of b) (plan_of b) c.args.size c.squares-step.result c.args.address
+    c.own_unit-unit.result step
     (sym c.is_outside.ensures ∙ c.if-is_outside.false) c.own_unit-unit.ensures split
     c.requires.inside c.requires.names in
     let room = k.room in

@@ -25,5 +25,5 @@ mod transform;
 mod unit;
 
 pub use modes::most_probable;
-pub use naming::names_its_units;
+pub use naming::{names_its_node, names_its_units};
 pub use unit::{count_node, put_ctb};

@@ -1,19 +1,19 @@
 //! Whether the units of a coding tree block name the coding units of its quadtree.
 
-ghost use Rattle.std.specs.Prelude.{◌≡◌, ◌<◌, ◌≤◌, ◌+◌, ◌*◌, ℕ, true, false, length, slice_get, Some};
-ghost use Rattle.hv_unit_model.specs.Sites.{squares, is_outside};
+ghost use Rattle.std.specs.Prelude.{◌≡◌, ◌<◌, ◌≤◌, ◌+◌, ◌-◌, ◌*◌, ℕ, true, false, length, slice_get, Some};
+ghost use Rattle.hv_unit_model.specs.Sites.{squares, address_of, is_outside};
 ghost use Rattle.hv_unit_model.specs.Plans.{NamesItsUnits, prediction_of, coded_square};
 ghost use Rattle.hv_syntax.specs.Blocks.{lists_of, ends};
 ghost use Rattle.hv_syntax.specs.Neighbours.{lists_of_plan};
 ghost use Rattle.hv_syntax.specs.Squares.{NamesNode, own_square};
 
-use crate::addresses::is_outside;
+use crate::addresses::{address_of, is_outside};
 use crate::block::Plan;
 use crate::near::view;
 use crate::quadtree::is_leaf;
 use crate::site::Site;
 use hv_block::CtbPlan;
-use hv_plan::{Mv, Place, Pred, Unit};
+use hv_plan::{Mv, Node, Place, Pred, Unit};
 
 /// Whether two vectors are the same.
 fn is_same(a: Mv, b: Mv) -> bool
@@ -177,4 +177,27 @@ pub fn names_its_units(place: Place, plan: &CtbPlan) -> bool
     ensures only { NamesItsUnits place (lists_of_plan plan.now) → result ≡ true }
 {
     names_node(&Site::of(place), &view(plan), 3, 0)
+}
+
+/// Whether the units of this node name the squares of its tree, as `count_node` asks: true exactly
+/// where each unit of it that is inside the picture is coded as that of the first square of its
+/// coding unit, and has the depth of the quadtree there. The node lies in the block, and the
+/// picture has a column of luma samples at least.
+pub fn names_its_node(place: Place, plan: &CtbPlan, node: Node) -> bool
+    requires width { 0 < place.width }
+    requires depth { node.depth ≤ 3 }
+    requires column { node.x < 8 }
+    requires row { node.y < 8 }
+    requires inside { address_of node.x node.y + squares (3 - node.depth) ≤ 64 }
+    ensures names { result ≡ true → NamesNode place (lists_of_plan plan.now) (3 - node.depth)
+        (address_of node.x node.y) }
+    ensures only { NamesNode place (lists_of_plan plan.now) (3 - node.depth)
+        (address_of node.x node.y) → result ≡ true }
+{
+    names_node(
+        &Site::of(place),
+        &view(plan),
+        3 - node.depth,
+        address_of(node.x, node.y),
+    )
 }

@@ -17,6 +17,8 @@ mod naming;
 mod near;
 mod offsets;
 mod quadtree;
+#[cfg(test)]
+mod recorder;
 mod seen;
 mod site;
 #[cfg(test)]

@@ -249,6 +249,13 @@ impl Encoder {
         self.register.encode_bypass(value);
     }
 
+    // end_of_slice_segment_flag 0
+    #[inline(always)]
+    pub fn continue_slice(&mut self) {
+        let width = self.register.range - 2;
+        self.register.renormalise(0, width);
+    }
+
     // The bin that ends the slice leaves the interval as it is.
     pub fn finish(self) -> Vec<u8> {
         self.register.flush()

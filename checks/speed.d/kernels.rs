@@ -1,10 +1,12 @@
 //! The same program as `crates/hv_speed` in plain Rust: loops over rows of fixed length, which the
 //! compiler turns into vector instructions as well as it can, and the writers of bits and of NAL
 //! units as `crates/hv_bits` has them; intra prediction as `crates/hv_intra` has it, and transforms
-//! as two passes of dot products. Levels are in a file of their own.
+//! as two passes of dot products. Levels and coding tree units are in
+//! files of their own.
 mod cabac;
 mod hand;
 mod levels;
+mod units;
 
 use std::env;
 use std::hint::black_box;
@@ -1107,5 +1109,6 @@ fn main() -> ExitCode {
         }
     }
     levels::print_checksums(name, rounds);
+    units::print_checksums(name, rounds);
     ExitCode::SUCCESS
 }

@@ -18,25 +18,36 @@ const GREATER_2: usize = 134;
 // ---- scans and contexts
 
 #[derive(Clone, Copy)]
-enum Scan {
+pub enum Scan {
     Diagonal,
-    #[allow(dead_code)]
     Horizontal,
-    #[allow(dead_code)]
     Vertical,
 }
 
 #[derive(Clone, Copy)]
-struct Block {
-    scan: Scan,
-    log2: u8,
-    luma: bool,
+pub struct Block {
+    pub scan: Scan,
+    pub log2: u8,
+    pub luma: bool,
 }
 
 #[derive(Clone, Copy)]
 struct Spot {
     x: u8,
     y: u8,
+}
+
+// By the mode of intra prediction, where the unit has one.
+#[inline(always)]
+pub fn scan_of(mode: Option<u8>, log2: u8, luma: bool) -> Scan {
+    if log2 > 3 || (log2 == 3 && !luma) {
+        return Scan::Diagonal;
+    }
+    match mode {
+        Some(6..=14) => Scan::Vertical,
+        Some(22..=30) => Scan::Horizontal,
+        _ => Scan::Diagonal,
+    }
 }
 
 static ONLY: [u8; 1] = [0];
@@ -267,7 +278,7 @@ fn zeros_before(levels: &[i16]) -> usize {
 }
 
 #[inline(always)]
-fn any_significant(levels: &[i16]) -> bool {
+pub fn any_significant(levels: &[i16]) -> bool {
     levels.iter().any(|&level| level != 0)
 }
 
@@ -384,13 +395,13 @@ fn put_last(encoder: &mut Encoder, block: Block, last: Last) {
 // ---- binarizations
 
 #[inline(always)]
-fn put_fixed_length(encoder: &mut Encoder, length: u8, value: u32) {
+pub fn put_fixed_length(encoder: &mut Encoder, length: u8, value: u32) {
     for digit in (0..length).rev() {
         encoder.bypass((value >> digit) % 2 == 1);
     }
 }
 
-fn put_exp_golomb(encoder: &mut Encoder, k: u8, value: u32) {
+pub fn put_exp_golomb(encoder: &mut Encoder, k: u8, value: u32) {
     let mut order = k;
     let mut rest = value;
     while rest >= 1 << order {
@@ -614,7 +625,7 @@ fn put_last_sub_block(encoder: &mut Encoder, levels: &[i16], block: Block, last:
 }
 
 #[inline(never)]
-fn put_residual(encoder: &mut Encoder, levels: &[i16], block: Block) {
+pub fn put_residual(encoder: &mut Encoder, levels: &[i16], block: Block) {
     let last = find_last(levels, block);
     put_last(encoder, block, last);
     let mut coded = put_last_sub_block(encoder, levels, block, last);
@@ -710,7 +721,7 @@ fn count_coordinate(block: Block, coordinate: u8) -> u32 {
 }
 
 #[inline(never)]
-fn count_residual(levels: &[i16], block: Block) -> u32 {
+pub fn count_residual(levels: &[i16], block: Block) -> u32 {
     let last = find_last(levels, block);
     let position = coded_position(block, last);
     let mut total = count_coordinate(block, position.x) + count_coordinate(block, position.y);
@@ -743,7 +754,7 @@ fn sparse(log2: u8, places: &[(usize, i16)]) -> Vec<i16> {
     levels
 }
 
-fn sum_of(bytes: &[u8]) -> u64 {
+pub fn sum_of(bytes: &[u8]) -> u64 {
     let mut sum = bytes.len() as u64;
     for part in bytes.chunks(SAMPLED) {
         sum = sum.wrapping_mul(31).wrapping_add(u64::from(part[0]));

@@ -124,7 +124,7 @@ fn count_block(block: &Levels) -> u32 {
 }
 
 /// A sum of the number of bytes and of some of them.
-fn sum_of(bytes: &[u8]) -> u64 {
+pub(crate) fn sum_of(bytes: &[u8]) -> u64 {
     let mut sum = bytes.len() as u64;
     for part in bytes.chunks(SAMPLED) {
         if let Some(byte) = part.first() {

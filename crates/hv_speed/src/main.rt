@@ -11,6 +11,7 @@ mod levels;
 mod pictures;
 mod streams;
 mod transforms;
+mod units;
 
 use anyhow::bail;
 use bits::BitKernel;
@@ -25,6 +26,7 @@ use std::env;
 use std::io::Print;
 use streams::Streams;
 use transforms::{Block, TransformKernel};
+use units::{UnitKernel, UnitPair};
 
 const CALLS: usize = 64;
 
@@ -203,6 +205,38 @@ fn print_checksums_of_levels(
     Ok(())
 }
 
+/// The sum of what `rounds` rounds gave, modulo 2^64.
+fn checksum_of_units(
+    alloc: Global,
+    kernel: UnitKernel,
+    rounds: u32,
+    blocks: &UnitPair,
+) -> Result<u64, NoMemory> {
+    let mut sum = 0u64;
+    for _ in 0..rounds {
+        sum = sum.wrapping_add(kernel.run(alloc, blocks)?);
+    }
+    Ok(sum)
+}
+
+/// As `print_checksums`, for kernels of coding tree units.
+fn print_checksums_of_units(
+    rt: &impl Print,
+    alloc: Global,
+    kernels: &[UnitKernel],
+    rounds: u32,
+) -> anyhow::Result<()> {
+    for kernel in kernels {
+        let blocks = kernel.blocks(alloc)?;
+        let Ok(sum) = checksum_of_units(alloc, *kernel, rounds, &blocks) else {
+            bail!("not enough memory");
+        };
+        let name = kernel.name();
+        println!(rt; "{name} {sum}")?;
+    }
+    Ok(())
+}
+
 fn main(rt: HostRuntime) -> anyhow::Result<()> {
     let mut words = env::args(&rt)?.skip(1);
     let (Some(name), Some(rounds)) = (words.next(), words.next()) else {
@@ -217,7 +251,8 @@ fn main(rt: HostRuntime) -> anyhow::Result<()> {
         print_checksums_of_intra(&rt, &IntraKernel::ALL, rounds)?;
         print_checksums_of_inter(&rt, rt.alloc(), &InterKernel::ALL, rounds)?;
         print_checksums_of_transforms(&rt, rt.alloc(), &TransformKernel::ALL, rounds)?;
-        return print_checksums_of_levels(&rt, rt.alloc(), &LevelKernel::ALL, rounds);
+        print_checksums_of_levels(&rt, rt.alloc(), &LevelKernel::ALL, rounds)?;
+        return print_checksums_of_units(&rt, rt.alloc(), &UnitKernel::ALL, rounds);
     }
     if let Some(kernel) = BitKernel::named(name.as_str()) {
         return print_checksums_of_bits(&rt, rt.alloc(), &[kernel], rounds);
@@ -233,6 +268,9 @@ fn main(rt: HostRuntime) -> anyhow::Result<()> {
     }
     if let Some(kernel) = LevelKernel::named(name.as_str()) {
         return print_checksums_of_levels(&rt, rt.alloc(), &[kernel], rounds);
+    }
+    if let Some(kernel) = UnitKernel::named(name.as_str()) {
+        return print_checksums_of_units(&rt, rt.alloc(), &[kernel], rounds);
     }
     match Kernel::named(name.as_str()) {
         Some(kernel) => print_checksums(&rt, rt.alloc(), &[kernel], rounds),

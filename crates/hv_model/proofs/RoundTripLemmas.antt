@@ -269,16 +269,10 @@ module _
 -- ---- the test of the settings built
 
 from_test : (s : Settings) → IsValid s → is_built s ≡ true → IsBuilt s
-from_test s valid e =
-    let both = and_parts (nat_eq s.group 1) (nat_eq s.effort 0) e in
-    record {
-      valid = valid;
-      group = eqb-true s.group 1 both.0;
-      effort = eqb-true s.effort 0 both.1;
-    }
+from_test s valid e = record { valid = valid; effort = eqb-true s.effort 0 e }
 
 to_test : (s : Settings) → IsBuilt s → is_built s ≡ true
-to_test s h = rw (eq-eqb s.group 1 h.group, eq-eqb s.effort 0 h.effort) refl
+to_test s h = eq-eqb s.effort 0 h.effort
 
 pub built_decided : BuiltIsDecided
 built_decided s valid = (from_test s valid, to_test s)

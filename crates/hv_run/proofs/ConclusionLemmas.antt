@@ -13,9 +13,9 @@ use Rattle.hv_types.specs.Outside.{Rises}
 use Rattle.hv_types.proofs.ConfigurationLemmas.{picture_bytes-least}
 use Rattle.hv_lemmas.proofs.ListLemmas.{length-tabulate}
 use Rattle.hv_model.specs.Built.{IsBuilt}
-use Rattle.hv_serial.specs.declared.encode.Totals.{Totals}
-use Rattle.hv_serial.specs.declared.encode.EncodeError.{EncodeError}
-use Rattle.hv_serial.specs.declared.encode.EncodeError.TheVariants as error
+use Rattle.hv_serial.specs.declared.answers.Totals.{Totals}
+use Rattle.hv_serial.specs.declared.answers.EncodeError.{EncodeError}
+use Rattle.hv_serial.specs.declared.answers.EncodeError.TheVariants as error
 use Rattle.hv_run.specs.declared.status.Status.{Status}
 use Rattle.hv_run.specs.declared.status.Status.TheVariants.{Ok, Words, ReadFault, ShortPicture, WriteFault, NoMemory, TooLong, ReportFault}
 use Rattle.hv_words.specs.declared.refusal.WordsError.{WordsError}
@@ -28,7 +28,7 @@ use Rattle.hv_serial.specs.Outcomes.{pictures_in, rest_in, group_count, WroteGro
 use Rattle.hv_serial.specs.Endings.{BothTold, Ends, EndsOk, AreTotals}
 use Rattle.hv_run.specs.Report.{Reports, ReportsRefusal, encoded_line, error_line, totals_line, line_of, no_memory_line, words_line, is_want_of_memory}
 use Rattle.hv_run.specs.Statuses.{is_whole, is_of_input, fixed_line, status_of, Concludes, ConcludedOk, ConcludedReportFault, due, status_due, IsDue}
-use Rattle.hv_serial.proofs.ProgressLemmas.{next_place}
+use Rattle.hv_serial.proofs.ReadingLemmas.{next_place}
 
 -- ---- a call that concluded so, for the settings that were asked for
 

@@ -4,9 +4,9 @@ use Rattle.hv_types.specs.declared.settings.Settings.{Settings}
 use Rattle.hv_types.specs.Configuration.{most_pictures, picture_bytes}
 use Rattle.hv_run.specs.declared.status.Status.{Status}
 use Rattle.hv_run.specs.declared.status.Status.TheVariants.{Ok, Words, ReadFault, ShortPicture, WriteFault, NoMemory, TooLong, ReportFault}
-use Rattle.hv_serial.specs.declared.encode.Totals.{Totals}
-use Rattle.hv_serial.specs.declared.encode.EncodeError.{EncodeError}
-use Rattle.hv_serial.specs.declared.encode.EncodeError.TheVariants as error
+use Rattle.hv_serial.specs.declared.answers.Totals.{Totals}
+use Rattle.hv_serial.specs.declared.answers.EncodeError.{EncodeError}
+use Rattle.hv_serial.specs.declared.answers.EncodeError.TheVariants as error
 use Rattle.hv_run.specs.Report.{Tells, TellsPart, Reports, totals_line, short_line, read_fault_line, write_fault_line, no_memory_line, too_long_line}
 use Rattle.hv_serial.specs.Transfers.{Drawn, Put}
 use Rattle.hv_serial.specs.Endings.{EndsOk, EndsReadFault, EndsShort, EndsWriteFault, EndsNoMemory, EndsTooLong}

@@ -1,6 +1,8 @@
 //! The top call of the encoder: from the words of a command line, a source and a sink to a status.
 #![tactic(auto)]
 
+#[cfg(test)]
+mod group_tests;
 mod known_ends;
 mod report;
 mod run;

@@ -30,10 +30,11 @@ use std::thread::Threads;
 /// Reads the words of a command line, encodes the video of the source, writes the output, and then
 /// the line of the status to the report.
 ///
-/// The words are those of `config_of_words`, with any size that `Config::checked` accepts. Built so
-/// far are `--group 1 --effort 0` with one worker, a stream as output and no generator; others are
-/// refused. The video is raw 8-bit 4:2:0, at most 400,000 pictures, each of which is a group of its
-/// own. A group is read, encoded and written before the next one is read. The gate isn't used yet,
+/// The words are those of `config_of_words`, with any size, group and levels that `Config::checked`
+/// accepts. Built so far are `--effort 0` with one worker, a stream as output and no generator;
+/// others are refused. The video is raw 8-bit 4:2:0, at most 400,000 pictures, in groups of which
+/// the last may have fewer pictures. A group is read whole, encoded and written before the next
+/// byte is read: where reading ends within one, nothing of it is written. The gate isn't used yet,
 /// and no thread is started. The first refusal in the order of words, reading, encoding, writing
 /// and report ends the call. Behind the last write, and before the report, `out` is asked once for
 /// its end, also where nothing was written: a refusal there is `WriteFault`.

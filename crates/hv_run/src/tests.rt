@@ -31,7 +31,7 @@ const STREAM: [u8; 92] = [
 ];
 
 /// The words of a line.
-fn words_of(alloc: Global, line: &str) -> Result<Words, NoMemory> {
+pub(crate) fn words_of(alloc: Global, line: &str) -> Result<Words, NoMemory> {
     let mut words = Words::new(alloc);
     for word in line.split_ascii_whitespace() {
         if words.count() < 100 {
@@ -42,7 +42,7 @@ fn words_of(alloc: Global, line: &str) -> Result<Words, NoMemory> {
 }
 
 /// A source of so many bytes of 85, which gives at most `at_most` a call, and one where that is 0.
-fn grey(
+pub(crate) fn grey(
     alloc: Global,
     bytes: usize,
     at_most: u32,
@@ -56,12 +56,12 @@ fn grey(
 }
 
 /// A sink with room for 100 bytes, which takes at most `at_most` a call, and one where that is 0.
-fn small(alloc: Global, at_most: u32, failing: &[u64]) -> Result<MemorySink, NoMemory> {
+pub(crate) fn small(alloc: Global, at_most: u32, failing: &[u64]) -> Result<MemorySink, NoMemory> {
     MemorySink::new(alloc, 100, at_most.max(1), failing.to_vec(alloc)?)
 }
 
 /// The number of a call that isn't reached.
-const NEVER: u64 = u64::MAX;
+pub(crate) const NEVER: u64 = u64::MAX;
 
 /// What an encoding is tried with: how many bytes the source has and gives a call, how many a sink
 /// and the report take a call, and the number of the call of each that fails.
@@ -235,10 +235,10 @@ fn refuses<R: Abort + Threads + Wait + Sync>(
     Ok(())
 }
 
-/// A byte behind 400,000 pictures of 8x8, each of 96 bytes.
+/// A byte behind 400,000 pictures of 8x8, each of 96 bytes, of which the last 6 begin a group of 7.
 #[test]
 fn a_video_that_is_too_long(rt: HostRuntime) -> Result<(), Fail> {
-    let line = "--width 8 --height 8 --qp 26 --levels 3 --group 1 --effort 0";
+    let line = "--width 8 --height 8 --qp 26 --levels 3 --group 7 --effort 0";
     let words = words_of(rt.alloc(), line)?;
     let mut source = SteadySource::new(vec![in rt.alloc(); 85; 96 * 400_000 + 1]?);
     let mut report = small(rt.alloc(), 80, &[])?;

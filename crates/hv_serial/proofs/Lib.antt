@@ -3,4 +3,6 @@ pub mod GrowthLemmas
 mod StreamLemmas
 pub mod ReadingLemmas
 pub mod ProgressLemmas
-mod EndLemmas
+mod StepLemmas
+mod UnitLemmas
+pub mod EndLemmas

@@ -1,3 +1,4 @@
 pub mod Transfers
 pub mod Outcomes
 pub mod Endings
+pub mod Steps

@@ -146,6 +146,8 @@ fn help_names_every_option(rt: HostRuntime) -> Result<(), Fail> {
 fn words_are_read_where_there_is_memory(rt: HostRuntime) -> Result<(), Fail> {
     for (line, answer) in [
         ("--effort 0 --height 50 --group=1 --width +66", "Ok 66x50 32 3"),
+        ("--width 64 --height 64 --effort 0", "Ok 64x64 32 3"),
+        ("--width 64 --height 64 --effort 0 --group 64 --levels 2", "Ok 64x64 32 2"),
         ("--width 65 --height 64", "odd size"),
         ("--width 7 --height 64", "odd size"),
         ("--width 4098 --height 64", "size out of range"),

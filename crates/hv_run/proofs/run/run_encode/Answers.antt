@@ -2,7 +2,7 @@
 use Rattle.std.proofs.Common.{refl, sym, ◌∙◌}
 use Rattle.hv_run.specs.declared.status.Status.TheVariants.{Ok, ReadFault, ShortPicture, WriteFault, NoMemory, TooLong, ReportFault}
 use Rattle.hv_serial.specs.Transfers.{drawn, put}
-use Rattle.hv_serial.proofs.ProgressLemmas.{start_no_memory}
+use Rattle.hv_serial.proofs.EndLemmas.{start_no_memory}
 use Rattle.hv_words.proofs.AcceptanceLemmas.{accepted_built, accepted_emit}
 use Rattle.hv_run.proofs.ConclusionLemmas.{concluded, refused_so, not_refused, refusal_told, no_memory_told, words_never, whole_case, groups_case, line_case, ok_line, part_of_line, complete_case}
 use Rattle.hv_run.proofs.run.run_encode.Goals as goal

@@ -143,7 +143,8 @@ fn counts_of(alloc: Global, stream: &[u8]) -> Result<Vec<u8>, NoMemory> {
     Ok(counts)
 }
 
-/// Ten pictures at three levels: behind the first one, the anchors 8 and 9, and the halves before 8.
+/// Ten pictures at three levels: behind the first one, the anchors 8 and 9, and the halves before
+/// 8.
 #[test]
 fn units_in_coding_order(rt: HostRuntime) -> Result<(), Fail> {
     let words = words_of(rt.alloc(), "--width 8 --height 8 --group 16 --effort 0")?;

@@ -275,14 +275,16 @@ fn encode_picture<R: Abort + Threads + Wait + Sync>(rt: &R, alloc: Global) -> Re
         Status::Ok => assert_eq!(rt; Some(out.written()), STREAM.get(..80)),
         status => {
             assert_eq!(rt; status, Status::NoMemory);
-            assert_eq!(rt; out.written(), [].as_slice());
+            let written = out.written();
+            assert!(rt; written.is_empty() || Some(written) == STREAM.get(..80));
             assert_eq!(rt; report.written(), b"no memory\n".as_slice());
         }
     }
     Ok(())
 }
 
-/// Whichever allocation is refused, the stream is whole or nothing is written.
+/// Whichever allocation is refused, the stream is whole or nothing is written: memory may be short
+/// before the group is written, and behind it.
 #[test]
 fn answers_want_of_memory(rt: HostRuntime) {
     let _ = encode_picture(&rt, rt.alloc());

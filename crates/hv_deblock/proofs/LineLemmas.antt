@@ -5,6 +5,7 @@ use Rattle.std.proofs.lemmas.Bool.Decides.{nat_tests}
 use Rattle.hv_deblock_model.specs.declared.line.Side.{Side}
 use Rattle.hv_deblock_model.specs.declared.line.Line.{Line}
 use Rattle.hv_deblock_model.specs.EdgeFilters.{clip_to, luma_step, stepped_line, normal_line}
+use Rattle.hv_lemmas.proofs.ComparisonLemmas.{lt_below}
 
 abbrev pub line_of : Side → Side → Line
 line_of p q = record { p = p; q = q }
@@ -15,9 +16,6 @@ first_of_cond b x y e = rw e refl
 pub second_of_cond : {A : Type 0} (b : Bool) (x y : A) → b ≡ false → cond b x y ≡ y
 second_of_cond b x y e = rw e refl
 
-pub test_less : (a b : ℕ) → a < b → nat_lt a b ≡ true
-test_less a b h = grind (arith, nat_tests, h)
-
 -- where the step is small
 pub normal_stepped : (tc : ℕ) (dEp dEq : Bool) (line new : Line) (step clipped : ℤ) → step ≡ luma_step line →
     unsigned_abs step < 10 * tc → clipped ≡ clip_to tc step → new ≡ stepped_line tc dEp dEq line clipped →
@@ -25,4 +23,4 @@ pub normal_stepped : (tc : ℕ) (dEp dEq : Bool) (line new : Line) (step clipped
 normal_stepped tc dEp dEq line new step clipped same few cut is =
     is ∙ ap (stepped_line tc dEp dEq line) (cut ∙ ap (clip_to tc) same)
     ∙ sym (first_of_cond (nat_lt (unsigned_abs (luma_step line)) (10 * tc)) _ line
-    (sym (ap (λ z. nat_lt (unsigned_abs z) (10 * tc)) same) ∙ test_less _ _ few))
+    (sym (ap (λ z. nat_lt (unsigned_abs z) (10 * tc)) same) ∙ lt_below _ _ few))

@@ -8,7 +8,7 @@ use Rattle.hv_group_model.specs.Structure.{Coded, coded, coding, place_in, falli
 use Rattle.hv_decision.specs.declared.row.Life.{Life}
 use Rattle.hv_decision.specs.Sets.{life_in, is_kept_at}
 use Rattle.hv_lemmas.proofs.ComputedLemmas.{holds_at}
-use Rattle.hv_group_model.proofs.NumberListLemmas.{below_all, rising_at, length-rising}
+use Rattle.hv_group_model.proofs.NumberListLemmas.{below_all, rising_at, length-rising, in_range}
 use Rattle.hv_decision.proofs.ListLemmas.{all-map}
 
 -- how many of these lives are kept at a place
@@ -39,14 +39,6 @@ low = refl
 high : list_all is_sound_count (rising 24 41) ≡ true
 unfolding is_sound_count is_sound_order kept_count
 high = refl
-
-in_range : (p : ℕ → Bool) (count from n : ℕ) → list_all p (rising n from) ≡ true → from ≤ count →
-    count < from + n → p count ≡ true
-in_range p count from n all above below =
-    let at : slice_index_or (rising n from) (count - from) 0 ≡ count =
-    rising_at n from (count - from) 0 (omega arith) ∙ omega arith in
-    let long : length (rising n from) ≡ n = length-rising n from in
-    sym (ap p at) ∙ holds_at p (rising n from) (count - from) 0 all (omega arith)
 
 -- a test that holds of each count, in two parts, so that neither takes too many steps
 pub each_count : (p : ℕ → Bool) (count : ℕ) → list_all p (rising 40 1) ≡ true →

@@ -15,7 +15,7 @@ use Rattle.std.proofs.lemmas.Bool.{cases_lt}
 use mathlib.Core.Logic.{⊎_elim}
 use Rattle.std.proofs.Math.IntN.{*ℤ_comm}
 use Rattle.hv_sample_model.specs.Blocks.{sum_of}
-use Rattle.hv_lanes.proofs.LaneStepLemmas.{passed}
+use Rattle.hv_lanes.proofs.LaneStepLemmas.{passed, regroup}
 use Rattle.hv_lanes.proofs.FourLaneLemmas.{kept_four, kept_lanes, same_lanes}
 use Rattle.hv_lanes.proofs.SumLemmas.{append_sum, sum_of_same}
 use Rattle.std.specs.Int.RustNames.{unsigned_abs}
@@ -86,9 +86,6 @@ pub next_row : (rows : List (List ℤ)) (p i j h : ℕ) → SFits w16 (in_pairs 
 next_row rows p i j h f =
     let place : 2 * p + (2 + h) ≡ 2 * (p + 1) + h = omega arith in
     subst (λ r. SFits w16 (in_pairs rows (4 * i + j) r)) place f
-
-regroup : (p q r s : ℤ) → (p +ℤ q) +ℤ (r +ℤ s) ≡ pos 0 +ℤ p +ℤ q +ℤ r +ℤ s
-regroup p q r s = omega (arith, ints)
 
 quad_is : (es : List ℤ) (rows : List (List ℤ)) (p i j : ℕ) → j < 4 → entry_quad es (eight_from (table_row rows p) i) (eight_from (table_row rows (p + 1)) i) j ≡ column_part 4 es rows i (2 * p) j
 unfolding sum_of

@@ -22,15 +22,12 @@ use Rattle.hv_lemmas.specs.Clipping.{clip16}
 use Rattle.hv_lanes.proofs.NumberLemmas.{small_number}
 use Rattle.hv_lanes.specs.Ranges.{Have16Bits}
 use lib.Seq.{take_all}
-use Rattle.hv_lanes.proofs.LaneStepLemmas.{clips_kept, kept, passed, small_numbers}
+use Rattle.hv_lanes.proofs.LaneStepLemmas.{clips_kept, kept, passed, small_numbers, fits}
 use Rattle.std.proofs.lemmas.List.{get_or-map, length-drop, length-map, length-take-le}
 use Rattle.std.proofs.lemmas.Simd.{put_chunk_whole}
 use borrow.Rule.Slice.PartMut.{put_mid}
 use Rattle.hv_lanes.specs.Passes.{HasFirst}
 use Rattle.hv_lanes.proofs.PartLemmas.{HasFirst-put, at_part}
-
-fits : (z : ℤ) → unsigned_abs z ≤ 2000000000 → SFits w32 z
-fits z h = fits_signed_from_abs w32 z (omega (arith, h))
 
 abbrev multiplied : List ℤ → List ℕ → List ℤ
 multiplied zs fs = map (to_z w32) (zip2 (act2 wrap_mul (s_int w32) (s_int w32) (s_int w32)) (map (of_z w32) zs) fs)

@@ -9,7 +9,7 @@ use Rattle.std.proofs.lemmas.List.{get_or-append_right, get_or-map, get_or_appen
 use mathlib.Core.Logic.{⊎_elim}
 use Rattle.hv_lanes.specs.Lanes.{FourLanes, Numbers, at, weight}
 use Rattle.hv_forward.specs.Forward.{EightLanes, in_turn, quarter_sum}
-use Rattle.hv_lanes.proofs.LaneStepLemmas.{by_four, kept, passed}
+use Rattle.hv_lanes.proofs.LaneStepLemmas.{kept, passed, regroup}
 use Rattle.std.specs.Int.{int_wrap}
 use lib.ListN.{get_or}
 use Rattle.std.proofs.Math.IntN.{*ℤ_comm}
@@ -20,6 +20,7 @@ use lib.Lanes.{zip2}
 use borrow.Rule.Simd.Lanes.{act2}
 use borrow.Table.Row.{s_int}
 use Rattle.std.specs.Prelude.{◌-ℤ◌}
+use Rattle.hv_lemmas.proofs.ComputedLemmas.{each_of_four}
 
 short : (most : ℕ) (z : ℤ) → most ≤ 32767 → unsigned_abs z ≤ most → SFits w16 z
 short most z few h = fits_signed_from_abs w16 z (omega (arith, few, h))
@@ -50,7 +51,7 @@ pub four_lanes : (f : ℕ → ℤ) (a b c d : ℤ) → a ≡ int_wrap w32 (f 0) 
 four_lanes f a b c d p q r s =
     record {
       count = refl;
-      each = by_four (λ j. at (a ∷ b ∷ c ∷ d ∷ []) j ≡ int_wrap w32 (f j)) p q r s;
+      each = each_of_four (λ j. at (a ∷ b ∷ c ∷ d ∷ []) j ≡ int_wrap w32 (f j)) p q r s;
     }
 
 -- a lane of a vector, before others
@@ -67,9 +68,6 @@ other_lane_at k n xs ys l below =
     let here : n + k - n ≡ k = omega arith in
     get_or-append_right (map (of_z w32) xs) (map (of_z w32) ys) n (n + k) 0 (length-map xs (of_z w32) ∙ l) (omega arith) ∙
     ap (λ i. get_or (map (of_z w32) ys) i 0) here ∙ get_or-map (of_z w32) ys k (pos 0) 0 below
-
-regroup : (p q r s : ℤ) → (p +ℤ q) +ℤ (r +ℤ s) ≡ pos 0 +ℤ p +ℤ q +ℤ r +ℤ s
-regroup p q r s = omega (arith, ints)
 
 -- four products of a row, lane by lane
 pub row_lane : (most q j : ℕ) (c : ℕ → ℤ) (xs ws : List ℤ) (ys vs : List ℕ) → q < 2 → j < 4 → most ≤ 32767 → length ws ≡ 16 → Numbers ws → EightLanes most c xs

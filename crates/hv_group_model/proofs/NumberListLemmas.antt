@@ -1,9 +1,10 @@
 -- Lists of numbers that fall to 0 and that rise: how long they are, what stands where, and tests of
 -- all of them. For what is computed of each group, and for reference picture sets (8.3.2).
-use Rattle.std.proofs.Common.{◌≡◌, ℕ, zero, suc, ◌+◌, ◌<◌, ◌∙◌, ap, Bool, true, refl, [], ◌∷◌, ◌++◌, length, slice_index_or, arith, ◌≤◌, inl, inr}
+use Rattle.std.proofs.Common.{◌≡◌, ℕ, zero, suc, ◌+◌, ◌-◌, ◌<◌, ◌∙◌, ap, sym, Bool, true, refl, [], ◌∷◌, ◌++◌, length, slice_index_or, arith, ◌≤◌, inl, inr}
 use Rattle.std.specs.Prelude.{◌⊎◌}
 use Rattle.std.specs.List.{list_all}
 use Rattle.std.proofs.lemmas.Bool.{and_parts, cases_lt}
+use Rattle.hv_lemmas.proofs.ComputedLemmas.{holds_at}
 use Rattle.hv_group_model.specs.Structure.{falling, rising}
 
 -- what a test found of all numbers below n holds at each of them
@@ -41,3 +42,12 @@ rising_push (suc n) from =
 pub length-falling : (n : ℕ) → length (falling n) ≡ n
 length-falling zero = refl
 length-falling (suc n) = ap suc (length-falling n)
+
+-- what a test found of all numbers of a range holds at each of them
+pub in_range : (p : ℕ → Bool) (i from n : ℕ) → list_all p (rising n from) ≡ true → from ≤ i →
+    i < from + n → p i ≡ true
+in_range p i from n all above below =
+    let at : slice_index_or (rising n from) (i - from) 0 ≡ i =
+    rising_at n from (i - from) 0 (omega arith) ∙ omega arith in
+    let long : length (rising n from) ≡ n = length-rising n from in
+    sym (ap p at) ∙ holds_at p (rising n from) (i - from) 0 all (omega arith)

@@ -49,13 +49,6 @@ differed_at (suc n) j (x ∷ xs) [] rest l m f g p = absurd (omega arith)
 differed_at (suc n) zero (x ∷ xs) (y ∷ ys) rest l m f g p = wrapping_sub_is w32 x y (f 0) (g 0)
 differed_at (suc n) (suc j) (x ∷ xs) (y ∷ ys) rest l m f g p = differed_at n j xs ys rest (omega arith) (omega arith) (later x xs f) (later y ys g) (omega (arith, p))
 
-pub by_four : (P : ℕ → Type 0) → P 0 → P 1 → P 2 → P 3 → (j : ℕ) → j < 4 → P j
-by_four P a b c d zero p = a
-by_four P a b c d (suc zero) p = b
-by_four P a b c d (suc (suc zero)) p = c
-by_four P a b c d (suc (suc (suc zero))) p = d
-by_four P a b c d (suc (suc (suc (suc j)))) p = absurd (omega (arith, p))
-
 -- a list of four is its four numbers
 pub four_numbers : (P : List ℤ → Type 0) → ((a b c d : ℤ) → P (a ∷ b ∷ c ∷ d ∷ [])) → (xs : List ℤ) → length xs ≡ 4 → P xs
 four_numbers P h [] l = absurd (omega arith)
@@ -116,7 +109,7 @@ shifted xs rounds shifts =
     zip2 (act2 (shr signed) (s_int w32) (s_int w32) (s_int w32))
     (zip2 (act2 wrap_add (s_int w32) (s_int w32) (s_int w32)) xs rounds) shifts
 
-fits : (z : ℤ) → unsigned_abs z ≤ 2000000000 → SFits w32 z
+pub fits : (z : ℤ) → unsigned_abs z ≤ 2000000000 → SFits w32 z
 fits z h = fits_signed_from_abs w32 z (omega (arith, h))
 
 step_small : (s : ℕ) → s ≤ 12 → 2 ^ (s - 1) ≤ 2048
@@ -207,3 +200,6 @@ clamps_are zero (z ∷ zs) l f = absurd (omega arith)
 clamps_are (suc n) [] l f = absurd (omega arith)
 clamps_are (suc n) (z ∷ zs) l f =
     ap₂ (λ a b. a ++ b) (same_by _ _ (of_z w32 z) refl refl ∙ ap (λ v. clip16 v ∷ []) (to_z-of_z w32 z (f 0))) (clamps_are n zs (omega arith) (λ k. f (suc k)))
+
+pub regroup : (p q r s : ℤ) → (p +ℤ q) +ℤ (r +ℤ s) ≡ pos 0 +ℤ p +ℤ q +ℤ r +ℤ s
+regroup p q r s = omega (arith, ints)

@@ -15,6 +15,7 @@ use Rattle.std.proofs.lemmas.Simd.{mask_l-mod}
 use Rattle.std.proofs.lemmas.List.{take-append-drop}
 use Rattle.hv_lanes.proofs.PartLemmas.{at_part}
 use Rattle.std.proofs.lemmas.List.Folds.{list_any-append}
+use Rattle.hv_lemmas.proofs.ComparisonLemmas.{or_true}
 
 -- what the lanes say of whether a level isn't 0
 abbrev pub marks : ℕ → List ℤ → List Bool
@@ -59,10 +60,6 @@ any_is xs l f =
     ap (λ m. not (nat_eq m 0)) (mask_l-mod (marks 8 xs) 64 (omega (arith, length-marks 8 xs))) ∙ any_marked 8 xs l f
 
 -- whether one of many passes a test
-or_true : (b : Bool) → (b || true) ≡ true
-or_true true = refl
-or_true false = refl
-
 pub any_part : (p : ℤ → Bool) (a m : ℕ) (xs : List ℤ) → list_any p (take m (drop a xs)) ≡ true → list_any p xs ≡ true
 any_part p a m xs h =
     let rest : list_any p (drop a xs) ≡ true =

@@ -1,5 +1,6 @@
 -- Truth values.
 use Rattle.std.proofs.Common.{◌≡◌, ◌≤◌, Bool, true, false, cond, ◌||◌, refl, arith}
+use mir.Val.{bool_byte}
 use Rattle.hv_lemmas.specs.Booleans.{same}
 
 pub one_at_most : (b : Bool) → cond b 1 0 ≤ 1
@@ -13,3 +14,7 @@ same_self false = refl
 pub or_right : (b c : Bool) → b || c ≡ true → b ≡ false → c ≡ true
 or_right true c either off = absurd cc
 or_right false c either off = either
+
+pub one_of : (b : Bool) → bool_byte b ≡ cond b 1 0
+one_of true = refl
+one_of false = refl

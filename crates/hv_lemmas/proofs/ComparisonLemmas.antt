@@ -23,3 +23,6 @@ or_true false = refl
 
 pub other_than_0 : (n : ℕ) → 0 < n → nat_eq n 0 ≡ false
 other_than_0 n some = grind (arith, nat_tests)
+
+pub suc_other_than_0 : (n : ℕ) → nat_eq (suc n) 0 ≡ false
+suc_other_than_0 n = grind (arith, nat_tests)

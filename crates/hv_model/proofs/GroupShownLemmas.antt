@@ -14,8 +14,9 @@ use Rattle.hv_model.specs.Parsing.{CodedPicture, Sequence, begins_with_idr}
 use Rattle.hv_model.specs.Reconstruction.{is_blank, grey, DecodedPicture, filtered_picture}
 use Rattle.hv_model.specs.Decoding.{has_count, decoded_from, are_different, counts_of, decoded_sequence, by_count, cropped, shown_sequence}
 use Rattle.hv_model.specs.Encoding.{header_in}
-use Rattle.hv_model.proofs.OrderLemmas.{numbers_of, in_order, IsGood, same_numbers}
+use Rattle.hv_model.proofs.OrderLemmas.{numbers_of, in_order, IsGood}
 use Rattle.hv_model.proofs.KeepingLemmas.{shown_at, coded_at, count_in, group_decoded}
+use Rattle.hv_stream_model.proofs.StreamLemmas.{same_bytes-true}
 
 -- lists of one value are the same where they have the same length
 pub alike : {A B C : Type 0} (value : C) (a : List A) (b : List B) → length a ≡ length b →
@@ -114,7 +115,7 @@ module _ (size : Size) (units : List CodingTreeUnit) (blank : list_all is_blank 
         ap by_count (numbers_shown order) ∙
         by_counts (rising (most_count + 1) 0) (numbers_of order) ∙
         ap (map (shown_at size units blank))
-        (same_numbers (in_order (numbers_of order)) (rising count 0) good.shown) in
+        (same_bytes-true (in_order (numbers_of order)) (rising count 0) good.shown) in
         ap (option_map (λ ps. map (λ d. cropped size d.picture) (by_count ps))) decoded ∙
         ap (λ ps. Some (map (λ d. cropped size d.picture) ps)) sorted ∙
         ap (λ ps. Some ps)

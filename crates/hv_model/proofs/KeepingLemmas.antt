@@ -3,7 +3,7 @@
 use Rattle.std.proofs.Common.{◌≡◌, ℕ, zero, suc, ◌+◌, ◌-◌, ◌<◌, ◌≤◌, Bool, true, false, List, [], ◌∷◌, ◌++◌, length, map, take, drop, refl, sym, ap, ap₂, ◌∙◌, subst, arith, inl, inr, append_assoc, append-nil, eq-eqb, ne_eqb, eqb-true}
 use Rattle.std.specs.Prelude.{◌⊎◌, ◌&&◌, ◌||◌, nat_eq, nat_lt, not, cond, filter, flat_map, Option, Some, None, option_and_then, option_map}
 use Rattle.std.specs.List.{list_all, list_any}
-use Rattle.std.proofs.lemmas.Bool.{and_parts, ltb-true, or_right, false≢true, cases_lt}
+use Rattle.std.proofs.lemmas.Bool.{and_parts, ltb-true, or_right, false≢true, cases_lt, not-true, and_from, cases_Bool}
 use Rattle.std.proofs.lemmas.Bool.Decides.{nat_tests}
 use Rattle.std.proofs.lemmas.List.Folds.{list_any-append}
 use Rattle.std.proofs.Math.Seq.{take-append_seam, drop-append_seam}
@@ -18,7 +18,7 @@ use Rattle.hv_model.specs.Parsing.{CodedPicture}
 use Rattle.hv_model.specs.Reconstruction.{is_blank, grey, DecodedPicture, filtered_picture, reconstructed}
 use Rattle.hv_model.specs.Decoding.{has_count, found_then, named, decoded_picture, decoded_from, are_different}
 use Rattle.hv_model.specs.Encoding.{header_in}
-use Rattle.hv_model.proofs.MembershipLemmas.{either, or_left, bool_cases, Among, AllAmong, among_first, among_behind, among_left, among_right, among_passes, among_stays, among_falling, among_rising}
+use Rattle.hv_model.proofs.MembershipLemmas.{either, or_left, Among, AllAmong, among_first, among_behind, among_left, among_right, among_passes, among_stays, among_falling, among_rising}
 use Rattle.hv_model.proofs.OrderLemmas.{numbers_of, IsGood}
 use Rattle.hv_model.proofs.ReferenceLemmas.{list_named, others_of, set_of_kept}
 
@@ -44,10 +44,6 @@ not_later n (d ∷ done) c rest e =
     go true u e = absurd (false≢true (sym e))
     go false u e = e
 
-not_true : (b : Bool) → not b ≡ true → b ≡ false
-not_true true e = absurd (false≢true e)
-not_true false e = refl
-
 pub place_of : (done : List Coded) (c : Coded) (rest : List Coded) →
     are_different (numbers_of (done ++ c ∷ rest)) ≡ true →
     place_in (done ++ c ∷ rest) c.picture ≡ length done
@@ -57,7 +53,7 @@ place_of (d ∷ done) c rest e =
     (are_different (numbers_of (done ++ c ∷ rest))) e in
     found_case (nat_eq d.picture c.picture) (place_in (done ++ c ∷ rest) c.picture) (length done)
     (not_later d.picture done c rest
-    (not_true (list_any (nat_eq d.picture) (numbers_of (done ++ c ∷ rest))) both.0))
+    (not-true (list_any (nat_eq d.picture) (numbers_of (done ++ c ∷ rest))) both.0))
     (place_of done c rest both.1)
 
 -- ---- what is kept before a picture
@@ -69,9 +65,6 @@ kept_here done c rest place other e =
     ap₂ (λ a b. is_among a other && is_referred b other)
     (ap (λ n. take n (done ++ c ∷ rest)) e ∙ take-append_seam done (c ∷ rest))
     (ap (λ n. drop n (done ++ c ∷ rest)) e ∙ drop-append_seam done (c ∷ rest))
-
-and_both : (a b : Bool) → a ≡ true → b ≡ true → (a && b) ≡ true
-and_both a b p q = rw (p, q) refl
 
 below_order : (count other : ℕ) (order : List Coded) →
     list_all (λ c. nat_lt c.picture count) order ≡ true → is_among order other ≡ true →
@@ -150,7 +143,7 @@ module _ (cfg : Settings) (count : ℕ) (good : IsGood count (coding count cfg.l
         whole = λ other apart among referred.
             ap (λ s. list_any (nat_eq other) s) is ∙
             among_stays (is_kept all place) other (others_of count (suc k))
-            (kept other ∙ and_both (is_among done other) (is_referred (c ∷ rest) other) among referred)
+            (kept other ∙ and_from (is_among done other) (is_referred (c ∷ rest) other) among referred)
             (other_among count (suc k) other (small (suc k) here)
             (small other (among_all done c rest other among)) apart);
       }
@@ -263,7 +256,7 @@ module _ (size : Size) (units : List CodingTreeUnit) (blank : list_all is_blank 
         Keeps (done ++ c ∷ []) rest (c.picture ∷ set)
     unfolding Keeps
     keeps_next done c rest set h other among referred =
-        elim (bool_cases (nat_eq other c.picture)) as (λ _. Among other (c.picture ∷ set)) [
+        elim (cases_Bool (nat_eq other c.picture)) as (λ _. Among other (c.picture ∷ set)) [
           | inl here ↦ or_left (nat_eq other c.picture) (list_any (nat_eq other) set) here
           | inr apart ↦ elim (among_one done c other among)
               as (λ _. Among other (c.picture ∷ set)) [

@@ -2,7 +2,7 @@
 use Rattle.std.proofs.Common.{◌≡◌, ℕ, zero, suc, ◌+◌, ◌-◌, ◌<◌, ◌≤◌, Bool, true, false, List, [], ◌∷◌, ◌++◌, length, map, take, drop, slice_index_or, refl, sym, ap, ap₂, ◌∙◌, arith, cond, inl, inr, eqb-true}
 use Rattle.std.specs.Prelude.{◌⊎◌, ◌&&◌, ◌||◌, nat_eq, filter, flat_map}
 use Rattle.std.specs.List.{list_all, list_any}
-use Rattle.std.proofs.lemmas.Bool.{and_parts, false≢true}
+use Rattle.std.proofs.lemmas.Bool.{and_parts, false≢true, and_from}
 use Rattle.std.proofs.lemmas.Bool.Decides.{nat_tests}
 use Rattle.std.proofs.lemmas.List.Elements.{filter-append}
 use Rattle.hv_types.specs.Configuration.{most_levels}
@@ -13,8 +13,9 @@ use Rattle.hv_stream_model.specs.HeaderLaws.{header_of}
 use Rattle.hv_model.specs.Slices.{counts_before, counts_after, used, list_0}
 use Rattle.hv_model.specs.ReferenceLaws.{SetsGiveTheReferences}
 use Rattle.hv_model.proofs.MembershipLemmas.{either, or_left, Among, among_left, among_behind, among_parts, among_rising}
-use Rattle.hv_model.proofs.OrderLemmas.{numbers_of, in_order, refers_well, IsGood, orders_good, same_numbers}
+use Rattle.hv_model.proofs.OrderLemmas.{numbers_of, in_order, refers_well, IsGood, orders_good}
 use Rattle.hv_model.proofs.ReferenceLemmas.{back_before, back_after, others_of}
+use Rattle.hv_stream_model.proofs.StreamLemmas.{same_bytes-true}
 
 -- ---- the used ones of a side are those that the picture refers to, where these are kept
 
@@ -122,7 +123,7 @@ picture_found count order good n below =
     found order n
     (in_order_among n (rising (most_count + 1) 0) (numbers_of order)
     (ap (λ xs. list_any (nat_eq n) xs)
-    (same_numbers (in_order (numbers_of order)) (rising count 0) good.shown) ∙
+    (same_bytes-true (in_order (numbers_of order)) (rising count 0) good.shown) ∙
     among_rising n count 0 (omega arith) (omega arith)))
 
 -- ---- what a picture refers to is kept
@@ -145,9 +146,6 @@ referred_here (c ∷ order) zero other below h =
 referred_here (c ∷ order) (suc place) other below h =
     referred_here order place other (omega arith) h
 
-both_true : (a b : Bool) → a ≡ true → b ≡ true → (a && b) ≡ true
-both_true a b p q = rw (p, q) refl
-
 pub references_given : SetsGiveTheReferences
 references_given count levels qp k few low below =
     let order : List Coded = coding count levels in
@@ -166,7 +164,7 @@ references_given count levels qp k few low below =
     both.0 in
     let kept_all : (other : ℕ) → list_any (nat_eq other) c.references ≡ true →
     is_kept order place other ≡ true =
-    λ other h. both_true (is_among (take place order) other) (is_referred (drop place order) other)
+    λ other h. and_from (is_among (take place order) other) (is_referred (drop place order) other)
     (all_any (is_among (take place order)) other c.references earlier h)
     (referred_here order place other there h) in
     let sorted : filter (λ other. list_any (nat_eq other) c.references) (falling picture) ++
@@ -175,7 +173,7 @@ references_given count levels qp k few low below =
     ap (λ n. filter (λ other. list_any (nat_eq other) c.references) (falling n) ++
     filter (λ other. list_any (nat_eq other) c.references) (rising (count - 1 - n) (n + 1)))
     (sym here.there) ∙
-    same_numbers _ c.references both.1 in
+    same_bytes-true _ c.references both.1 in
     ap₂ (λ a b. a ++ b) (used_before order place picture kept_all picture (omega arith))
     (used_after order place picture kept_all (count - 1 - picture) (picture + 1) (omega arith)) ∙
     sorted

@@ -2,7 +2,7 @@
 use Rattle.std.proofs.Common.{◌≡◌, ℕ, zero, suc, ◌+◌, ◌-◌, ◌<◌, ◌≤◌, Bool, true, false, List, [], ◌∷◌, ◌++◌, map, refl, sym, ap, ap₂, ◌∙◌, subst, arith, inl, inr, eq-eqb, ne_eqb, eqb-true}
 use Rattle.std.specs.Prelude.{◌⊎◌, ◌||◌, ◌&&◌, nat_eq, cond, filter}
 use Rattle.std.specs.List.{list_any, list_all}
-use Rattle.std.proofs.lemmas.Bool.{or_right, false≢true}
+use Rattle.std.proofs.lemmas.Bool.{or_right, false≢true, cases_Bool}
 use Rattle.std.proofs.lemmas.Bool.Decides.{nat_tests}
 use Rattle.std.proofs.lemmas.List.Folds.{list_any-append}
 use Rattle.hv_group_model.specs.Structure.{falling, rising}
@@ -16,10 +16,6 @@ either false y e = inr e
 pub or_left : (x y : Bool) → x ≡ true → (x || y) ≡ true
 or_left true y e = refl
 or_left false y e = absurd cc
-
-pub bool_cases : (b : Bool) → (b ≡ true) ⊎ (b ≡ false)
-bool_cases true = inl refl
-bool_cases false = inr refl
 
 -- ---- numbers in lists
 
@@ -91,7 +87,7 @@ among_stays p n (x ∷ xs) passes h =
 
 pub among_falling : (n m : ℕ) → n < m → Among n (falling m)
 among_falling n zero h = absurd (omega arith)
-among_falling n (suc m) h = elim (bool_cases (nat_eq n m)) as (λ _. Among n (falling (suc m))) [
+among_falling n (suc m) h = elim (cases_Bool (nat_eq n m)) as (λ _. Among n (falling (suc m))) [
   | inl here ↦ or_left (nat_eq n m) (list_any (nat_eq n) (falling m)) here
   | inr apart ↦ among_behind n m (falling m) (among_falling n m (below n m h apart))
 ]
@@ -102,7 +98,7 @@ among_falling n (suc m) h = elim (bool_cases (nat_eq n m)) as (λ _. Among n (fa
 pub among_rising : (n m from : ℕ) → from ≤ n → n < from + m → Among n (rising m from)
 among_rising n zero from low high = absurd (omega arith)
 among_rising n (suc m) from low high =
-    elim (bool_cases (nat_eq n from)) as (λ _. Among n (rising (suc m) from)) [
+    elim (cases_Bool (nat_eq n from)) as (λ _. Among n (rising (suc m) from)) [
       | inl here ↦ or_left (nat_eq n from) (list_any (nat_eq n) (rising m (from + 1))) here
       | inr apart ↦ among_behind n from (rising m (from + 1))
           (among_rising n m (from + 1) (above n from low apart) (omega arith))

@@ -5,7 +5,7 @@ use Rattle.std.specs.List.{list_all, list_any}
 use Rattle.std.proofs.lemmas.Bool.{and_parts, cases_lt}
 use Rattle.hv_types.specs.Configuration.{most_levels}
 use Rattle.hv_group_model.specs.Structure.{Coded, coding, place_in, is_among, falling, rising}
-use Rattle.hv_group_model.proofs.NumberListLemmas.{rising_at, length-rising}
+use Rattle.hv_group_model.proofs.NumberListLemmas.{rising_at, length-rising, in_range}
 use Rattle.hv_lemmas.proofs.ComputedLemmas.{holds_at}
 use Rattle.hv_stream_model.specs.Headers.{most_count}
 use Rattle.hv_stream_model.specs.Units.{same_bytes}
@@ -54,14 +54,6 @@ last_counts : list_all is_good_count (rising 14 51) ≡ true
 unfolding is_good_count is_good_order
 last_counts = refl
 
-in_range : (p : ℕ → Bool) (count from n : ℕ) → list_all p (rising n from) ≡ true → from ≤ count →
-    count < from + n → p count ≡ true
-in_range p count from n all above below =
-    let at : slice_index_or (rising n from) (count - from) 0 ≡ count =
-    rising_at n from (count - from) 0 (omega arith) ∙ omega arith in
-    let long : length (rising n from) ≡ n = length-rising n from in
-    sym (ap p at) ∙ holds_at p (rising n from) (count - from) 0 all (omega arith)
-
 good_count : (count : ℕ) → 1 ≤ count → count ≤ 64 → is_good_count count ≡ true
 good_count count some most = elim (cases_lt count 31) as (λ _. is_good_count count ≡ true) [
   | inl few ↦ in_range is_good_count count 1 30 first_counts some (omega arith)
@@ -101,11 +93,3 @@ orders_good count levels some most few =
     good_parts count (coding count levels)
     (in_range (λ l. is_good_order count (coding count l)) levels 0 (most_levels + 1)
     (good_count count some most) (omega arith) (omega arith))
-
-pub same_numbers : (a b : List ℕ) → same_bytes a b ≡ true → a ≡ b
-same_numbers [] [] e = refl
-same_numbers [] (y ∷ b) e = absurd cc
-same_numbers (x ∷ a) [] e = absurd cc
-same_numbers (x ∷ a) (y ∷ b) e =
-    let both = and_parts (nat_eq x y) (same_bytes a b) e in
-    ap₂ (λ h t. h ∷ t) (eqb-true x y both.0) (same_numbers a b both.1)

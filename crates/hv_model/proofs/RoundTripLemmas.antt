@@ -1,6 +1,6 @@
 -- What is written decodes to what is shown.
 use Rattle.std.proofs.Common.{◌≡◌, ◌≢◌, ℕ, zero, suc, ◌-◌, ◌*◌, ◌/◌, ◌%◌, ◌<◌, ◌≤◌, Bool, true, false, List, [], ◌∷◌, ◌++◌, length, map, refl, sym, ap, ap₂, ◌∙◌, arith, eq-eqb}
-use Rattle.std.proofs.lemmas.Bool.{and_parts, eqb-true, ltb-true}
+use Rattle.std.proofs.lemmas.Bool.{and_parts, eqb-true, ltb-true, not-true}
 use Rattle.std.proofs.lemmas.Bool.Decides.{nat_tests}
 use Rattle.std.specs.Prelude.{not, cond, nat_eq, nat_lt, flat_map, filter, drop, Option, Some, option_and_then, option_map}
 use Rattle.std.specs.List.{list_all}
@@ -32,6 +32,7 @@ use Rattle.hv_model.proofs.GroupLemmas.{AreGroups, groups_are}
 use Rattle.hv_model.proofs.OrderLemmas.{IsGood, orders_good}
 use Rattle.hv_model.proofs.GroupShownLemmas.{group_shown}
 use Rattle.hv_model.proofs.WrittenUnitLemmas.{set_unit, slice_unit, group_units, units_after_sets, units, units_joined, all_units, groups_kept}
+use Rattle.hv_lemmas.proofs.ComparisonLemmas.{suc_other_than_0}
 
 -- ---- what is parsed
 
@@ -67,10 +68,6 @@ abbrev StartsAnew : List CodedPicture → Type 0
 StartsAnew [] = Unit {0}
 StartsAnew (picture ∷ pictures) = begins_with_idr (picture ∷ []) ≡ true
 
-not_true : (b : Bool) → not b ≡ true → b ≡ false
-not_true true e = absurd cc
-not_true false e = refl
-
 cut_first : (first : CodedPicture) (others behind : List CodedPicture) →
     list_all (λ p. not (begins_with_idr (p ∷ []))) others ≡ true → StartsAnew behind →
     cut_at_idrs (first ∷ others ++ behind) ≡ (first ∷ others) ∷ cut_at_idrs behind
@@ -79,11 +76,8 @@ cut_first first [] (next ∷ behind) later anew = rw anew refl
 cut_first first (next ∷ others) behind later anew =
     let both = and_parts (not (begins_with_idr (next ∷ [])))
     (list_all (λ p. not (begins_with_idr (p ∷ []))) others) later in
-    rw (not_true (begins_with_idr (next ∷ [])) both.0)
+    rw (not-true (begins_with_idr (next ∷ [])) both.0)
     (ap (in_front first) (cut_first next others behind both.1 anew))
-
-not_first : (k : ℕ) → nat_eq (suc k) 0 ≡ false
-not_first k = grind (arith, nat_tests)
 
 header_later : (cfg : Settings) (count k : ℕ) → 0 < k →
     not (begins_with_idr (record {
@@ -91,7 +85,7 @@ header_later : (cfg : Settings) (count k : ℕ) → 0 < k →
       units = coded_units (picture_sites cfg);
     } ∷ [])) ≡ true
 header_later cfg count zero some = absurd (omega arith)
-header_later cfg count (suc k) some = ap not (not_first k)
+header_later cfg count (suc k) some = ap not (suc_other_than_0 k)
 
 later_coded : (cfg : Settings) (count : ℕ) (order : List Coded) →
     list_all (λ c. nat_lt 0 c.picture) order ≡ true →

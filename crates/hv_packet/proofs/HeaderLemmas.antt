@@ -9,9 +9,7 @@ use Rattle.hv_stream_model.specs.Headers.{slice_header_of}
 use Rattle.hv_stream_model.specs.Units.{TRAIL_R, IDR_N_LP}
 use Rattle.hv_model.specs.Slices.{nal_unit_type_of, header_fields}
 use Rattle.hv_model.specs.Encoding.{header_in}
-
-not_first : (k : ℕ) → nat_eq (suc k) 0 ≡ false
-not_first k = grind (arith, nat_tests)
+use Rattle.hv_lemmas.proofs.ComparisonLemmas.{suc_other_than_0}
 
 pub quantiser_in : (cfg : Settings) (count picture : ℕ) →
     qp_at cfg.qp (coded_of count cfg.levels picture).depth ≡ (header_in cfg count picture).qp
@@ -22,7 +20,7 @@ pub fields_in : (cfg : Settings) (count picture : ℕ) →
     header_fields (header_in cfg count picture) ≡
     slice_header_of count cfg.levels cfg.qp picture
 fields_in cfg count zero = refl
-fields_in cfg count (suc k) = rw (not_first k) refl
+fields_in cfg count (suc k) = rw (suc_other_than_0 k) refl
 
 pub first_kind : (cfg : Settings) (count picture : ℕ) → picture ≡ 0 →
     I ≡ (header_in cfg count picture).slice_type
@@ -42,4 +40,4 @@ first_type cfg count (suc k) e = absurd (omega arith)
 pub later_type : (cfg : Settings) (count picture : ℕ) → (picture ≡ 0 → ⊥) →
     TRAIL_R ≡ nal_unit_type_of (header_in cfg count picture)
 later_type cfg count zero e = absurd (e refl)
-later_type cfg count (suc k) e = rw (not_first k) refl
+later_type cfg count (suc k) e = rw (suc_other_than_0 k) refl

@@ -5,7 +5,7 @@ use Rattle.std.specs.Int.Count.{count_leading_zeros}
 use Rattle.std.proofs.lemmas.Nat.{leading_top}
 use Rattle.std.proofs.lemmas.List.{length-map}
 use Rattle.std.proofs.lemmas.Bool.Decides.{nat_tests}
-use Rattle.std.proofs.lemmas.Bool.{leb-true}
+use Rattle.std.proofs.lemmas.Bool.{leb-true, leb-false}
 use Rattle.hv_lemmas.proofs.ComparisonLemmas.{lt_below, lt_not_below, zero_lt_suc}
 use Rattle.hv_residual_model.proofs.LevelLemmas.{as_many_signs}
 use Rattle.hv_types.specs.declared.bins.CtxTable.TheVariants.{LastX, LastY}
@@ -142,9 +142,6 @@ sig_all (level ∷ []) h = absurd (omega arith)
 sig_all (level ∷ next ∷ levels) h =
     all_case level next levels (is_significant level) refl h (sig_all (next ∷ levels))
 
-more : (n m : ℕ) → nat_le n m ≡ false → m < n
-more n m h = grind (arith, nat_tests, h)
-
 pub inferred_count : (levels : List ℤ) (sure : Bool) →
     (sure && nat_le (length levels) (zeros_before levels + 1)) ≡ true →
     sig_count levels sure ≡ length levels - 1
@@ -154,7 +151,7 @@ inferred_count levels false h = absurd cc
 pub full_count : (levels : List ℤ) (sure : Bool) →
     (sure && nat_le (length levels) (zeros_before levels + 1)) ≡ false →
     sig_count levels sure ≡ length levels
-full_count levels true h = sig_all levels (more _ _ h)
+full_count levels true h = sig_all levels (leb-false _ _ h)
 full_count levels false h = sig_unsure levels
 
 -- ---- what follows the significance

@@ -59,10 +59,6 @@ pub no_sign_left : (levels : List ℤ) (i : ℕ) (xs : List Bool) → length lev
 no_sign_left levels i xs h =
     let d : drop i levels ≡ [] = drop_of_length-le levels h in rw d (append-nil xs)
 
-pub one_of : (b : Bool) → bool_byte b ≡ cond b 1 0
-one_of true = refl
-one_of false = refl
-
 -- ---- sig_coeff_flag
 first_coded : (q : ℕ → UnitQuestion) (level : ℤ) (levels : List ℤ) (sure : Bool) →
     sig_coeff_bins q (level ∷ levels) sure ≡

@@ -4,7 +4,7 @@ use Rattle.std.specs.List.{filter, sum_by}
 use Rattle.std.proofs.lemmas.List.Sums.{sum_by-cons, sum-map}
 use Rattle.hv_lemmas.specs.Clipping.{clip1}
 use Rattle.std.proofs.lemmas.Int.{ints}
-use Rattle.std.proofs.lemmas.Bool.{cases_lt}
+use Rattle.std.proofs.lemmas.Bool.{cases_lt, cases_Bool}
 use Rattle.std.proofs.lemmas.Bool.Decides.{nat_tests}
 use Rattle.hv_types.specs.Samples.{Plane, HasByteSamples, sample_at}
 use Rattle.hv_types.proofs.SampleLemmas.{byte_at}
@@ -32,10 +32,6 @@ cond_true b y z w e h = rw e h
 cond_false : (b : Bool) (y z w : ℤ) → b ≡ false → z ≡ w → cond b y z ≡ w
 cond_false b y z w e h = rw e h
 
-either : (b : Bool) → (b ≡ true) ⊎ (b ≡ false)
-either true = inl refl
-either false = inr refl
-
 -- what is summed over the samples of a group is summed key by key
 pub by_group : (p : Location → Bool) (key : Location → ℕ) (at : ℕ) (f : Location → ℤ) (g : ℕ → Location → ℤ) (xs : List Location) →
     IsGroup p key at → ((a : Location) → p a ≡ true → f a ≡ g (key a - at) a) →
@@ -51,7 +47,7 @@ by_group p key at f g xs group same =
     (λ no.
     cond_false (p a) (f a) (pos 0) (sum_upto 8 (λ j. cond (nat_eq (key a) (at + j)) (g j a) (pos 0))) no
     (sym (other_keys 8 (key a) at (λ j. g j a) (group.no a no))))
-    (either (p a)))
+    (cases_Bool (p a)))
 
 pub count_by_group : (p : Location → Bool) (n : ℕ) (key : Location → ℕ) (at : ℕ) (b : Block) (tallies : List Tally) → IsGroup p key at →
     at + 8 ≤ n → Counts n key b tallies → pos (length (filter p (locations b.area))) ≡ group_count tallies at

@@ -28,7 +28,7 @@ AreBytes-drop zero bytes p = p
 AreBytes-drop (suc n) [] p = tt
 AreBytes-drop (suc n) (x ∷ bytes) p = AreBytes-drop n bytes p.1
 
-same_bytes-true : (a b : List ℕ) → same_bytes a b ≡ true → a ≡ b
+pub same_bytes-true : (a b : List ℕ) → same_bytes a b ≡ true → a ≡ b
 same_bytes-true [] [] e = refl
 same_bytes-true [] (y ∷ b) e = absurd cc
 same_bytes-true (x ∷ a) [] e = absurd cc

@@ -1,9 +1,9 @@
 -- What is seen of the blocks around (6.4.1) is what is seen of the units beside a block.
 use Rattle.std.proofs.Common.{◌≡◌, ℕ, ◌+◌, ◌-◌, ◌*◌, ◌<◌, ◌≤◌, Bool, true, false, nat_lt, nat_eq, List, refl, ◌∙◌, arith, inl, inr}
 use Rattle.std.specs.Prelude.{nat_le, ◌&&◌, ◌||◌, ◌⊎◌, slice_index_or}
-use Rattle.std.proofs.lemmas.Bool.{cases_lt, ltb-true, true≢false}
+use Rattle.std.proofs.lemmas.Bool.{cases_lt, ltb-true, true≢false, leb-false, or_parts}
 use Rattle.std.proofs.lemmas.Bool.Decides.{nat_tests}
-use Rattle.hv_lemmas.proofs.ComparisonLemmas.{lt_below, lt_not_below}
+use Rattle.hv_lemmas.proofs.ComparisonLemmas.{lt_below, lt_not_below, other_than_0}
 use Rattle.hv_lemmas.proofs.ComputedLemmas.{all_below, holds_below}
 use Rattle.hv_unit_model.specs.Sites.{Site, ctb_column, ctb_row, address_of, column_of, row_of, is_outside}
 use Rattle.hv_unit_model.specs.EarlierUnits.{Square, Unavailable}
@@ -20,16 +20,6 @@ le_below a b h = grind (arith, nat_tests)
 le_not_below : (a b : ℕ) → b < a → nat_le a b ≡ false
 le_not_below a b h = grind (arith, nat_tests)
 
-above_of_le : (a b : ℕ) → nat_le a b ≡ false → b < a
-above_of_le a b h = grind (arith, nat_tests)
-
-eq_zero : (a : ℕ) → 0 < a → nat_eq a 0 ≡ false
-eq_zero a h = grind (arith, nat_tests)
-
-neither : (a b : Bool) → (a || b) ≡ false → (a ≡ false) × (b ≡ false)
-neither true b e = absurd (true≢false e)
-neither false b e = (refl, e)
-
 -- ---- where a square is
 pub record Inside (site : Site) (address : ℕ) : Type 0 where
   pub column : 64 * ctb_column site + 8 * column_of address < site.width
@@ -38,8 +28,8 @@ pub record Inside (site : Site) (address : ℕ) : Type 0 where
 inside_of : (site : Site) (address : ℕ) → is_outside site address ≡ false → Inside site address
 unfolding is_outside
 inside_of site address e =
-    let parts = neither _ _ e in
-    record { column = above_of_le _ _ parts.0; row = above_of_le _ _ parts.1 }
+    let parts = or_parts _ _ e in
+    record { column = leb-false _ _ parts.0; row = leb-false _ _ parts.1 }
 
 not_outside : (site : Site) (address : ℕ) → Inside site address → is_outside site address ≡ false
 unfolding is_outside
@@ -88,13 +78,13 @@ left_before : (a : ℕ) → a < 64 → 0 < column_of a → address_of (column_of
 unfolding left_test
 left_before a h k =
     let t = holds_below 64 left_test lefts a h in
-    ltb-true _ _ (rw (eq_zero (column_of a) k) at t)
+    ltb-true _ _ (rw (other_than_0 (column_of a) k) at t)
 
 above_before : (a : ℕ) → a < 64 → 0 < row_of a → address_of (column_of a) (row_of a - 1) < a
 unfolding above_test
 above_before a h k =
     let t = holds_below 64 above_test aboves a h in
-    ltb-true _ _ (rw (eq_zero (row_of a) k) at t)
+    ltb-true _ _ (rw (other_than_0 (row_of a) k) at t)
 
 -- a square of the block, which comes before
 own_seen : (site : Site) (plan : Plan) (address : ℕ) (earlier : List Square) (c r : ℕ) →
@@ -219,7 +209,7 @@ unfolding seen_left
 left_in b around address earlier beside few shows inside (inl some) any =
     let place = place_of_address address few in
     let before = left_before address few some in
-    rw (eq_zero (column_of address) some)
+    rw (other_than_0 (column_of address) some)
     (look_left_inside (place_of b) around earlier (column_of address) (row_of address) some place.1
     place.2 inside.column inside.row ∙
     own_seen (place_of b) (plan_of b) address earlier (column_of address - 1) (row_of address) shows
@@ -247,7 +237,7 @@ unfolding seen_above
 above_in b around address earlier beside few shows inside (inl some) any =
     let place = place_of_address address few in
     let before = above_before address few some in
-    rw (eq_zero (row_of address) some)
+    rw (other_than_0 (row_of address) some)
     (look_above_inside (place_of b) around earlier (column_of address) (row_of address) some place.1
     place.2 inside.column inside.row ∙
     own_seen (place_of b) (plan_of b) address earlier (column_of address) (row_of address - 1) shows

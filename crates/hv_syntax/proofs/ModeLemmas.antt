@@ -7,6 +7,7 @@ use Rattle.hv_types.specs.declared.bins.CtxTable.TheVariants.{PrevIntra}
 use Rattle.hv_residual_model.specs.Binarization.{bypass_at, truncated_unary_bins, fixed_length_bins}
 use Rattle.hv_unit_model.specs.MostProbableModes.{candModeList, third_mode, remaining_of}
 use Rattle.hv_unit_model.specs.Bins.{bin, luma_mode_bins}
+use Rattle.hv_lemmas.proofs.BooleanLemmas.{one_of}
 
 eq_same : (a b : ℕ) → a ≡ b → nat_eq a b ≡ true
 eq_same a b h = grind (arith, nat_tests)
@@ -51,10 +52,6 @@ pub other_bins : (a b c m : ℕ) → m ≢ a → m ≢ b → m ≢ c →
     luma_mode_bins (a ∷ b ∷ c ∷ []) m
 unfolding luma_mode_bins
 other_bins a b c m h k l = rw (eq_apart m a h, eq_apart m b k, eq_apart m c l) refl
-
-one_of : (b : Bool) → bool_byte b ≡ cond b 1 0
-one_of true = refl
-one_of false = refl
 
 pub remaining_is : (a b c m x y z : ℕ) → x ≡ bool_byte (nat_lt a m) → y ≡ bool_byte (nat_lt b m) →
     z ≡ bool_byte (nat_lt c m) → m - (x + (y + z)) ≡ remaining_of (a ∷ b ∷ c ∷ []) m

@@ -12,7 +12,9 @@ use Rattle.hv_unit_model.specs.EarlierUnits.{Square, Unavailable, Coded, squares
 use Rattle.hv_unit_model.specs.Plans.{Plan, prediction_of, coded_square, square_or_none, transform_units_at, tree_at}
 use Rattle.hv_syntax.specs.Blocks.{ends}
 use Rattle.hv_syntax.specs.Squares.{own_square, NamesNode}
-use Rattle.hv_syntax.proofs.NodeLemmas.{outside_tree, leaf_tree, split_tree, size_of_split, length_node, four_at, some_squares}
+use Rattle.hv_syntax.proofs.NodeLemmas.{outside_tree, leaf_tree, split_tree, size_of_split, four_at}
+use Rattle.hv_unit_model.proofs.AroundLemmas.{length-tree_at}
+use Rattle.hv_unit_model.proofs.NodeLemmas.{squares_above_0}
 
 -- ---- a row of squares by the first and the others
 pub each_from : (P : ℕ → Type 0) (from count : ℕ) → P from →
@@ -121,7 +123,7 @@ depth_of_names site plan size address u outside there leaf names =
     ap (λ o. depth_in (square_or_none o)) (sym there) ∙
     ap (λ (a : ℕ). depth_in (own_square plan a)) (sym e) ∙
     ap depth_in (named_square site plan size address u outside there leaf names zero
-    (some_squares size) (subst (λ (a : ℕ). is_outside site a ≡ false) (sym e) outside))
+    (squares_above_0 size) (subst (λ (a : ℕ). is_outside site a ≡ false) (sym e) outside))
 
 pub squares_of_names : (site : Site) (plan : Plan) (size address : ℕ) (u : Unit) →
     is_outside site address ≡ false → slice_get plan.units address ≡ Some u →
@@ -189,7 +191,7 @@ names_split : (site : Site) (plan : Plan) (size address : ℕ) (u : Unit) →
 names_split site plan size address u outside there split parts =
     let n : ℕ = squares size in
     let at : ℕ → List Square = λ a. squares_of size (tree_at site plan size a) in
-    let count : (a : ℕ) → length (at a) ≡ squares size = λ a. length_node site plan size a in
+    let count : (a : ℕ) → length (at a) ≡ squares size = λ a. length-tree_at site plan size a in
     let whole : List Square = at address ++ (at (address + n) ++ (at (address + 2 * n) ++
     at (address + 3 * n))) in
     let is_whole : squares_of (suc size) (tree_at site plan (suc size) address) ≡ whole =

@@ -13,6 +13,8 @@ use Rattle.hv_unit_model.specs.Plans.{Plan, prediction_of, transform_units_at, l
 use Rattle.hv_syntax.specs.declared.block.Block.{Block}
 use Rattle.hv_syntax.specs.Blocks.{plan_of, place_of, node_of, ends}
 use Rattle.hv_syntax.specs.Squares.{own_square, Shows, NamesNode}
+use Rattle.hv_unit_model.proofs.AroundLemmas.{length-tree_at}
+use Rattle.hv_unit_model.proofs.NodeLemmas.{squares_above_0}
 
 -- ---- the tree of a node
 pub outside_tree : (site : Site) (p : Plan) (size address : ℕ) → is_outside site address ≡ true →
@@ -41,84 +43,6 @@ pub size_of_split : (size depth : ℕ) → ends size depth ≡ false → size �
 size_of_split zero depth e = absurd (true≢false e)
 size_of_split (suc size) depth e = omega arith
 
--- ---- how many squares it has
-length_outside : (size : ℕ) → length (squares_of size Outside) ≡ squares size
-length_outside zero = length-replicate (squares zero) Unavailable
-length_outside (suc size) = length-replicate (squares (suc size)) Unavailable
-
-length_leaf : (size : ℕ) (p : Prediction) (units : List TransformUnit) →
-    length (squares_of size (Leaf p units)) ≡ squares size
-length_leaf zero p units = length-replicate (squares zero) (Coded (depth_of zero) p)
-length_leaf (suc size) p units = length-replicate (squares (suc size)) (Coded (depth_of (suc size)) p)
-
-length_leaf_of : (p : Plan) (size address : ℕ) (pred : Pred) →
-    length (squares_of size (leaf_of p size address pred)) ≡ squares size
-length_leaf_of p size address pred =
-    length_leaf size (prediction_of pred)
-    (transform_units_at p (log2TrafoSize size) address (transform_units size))
-
-length_four : (n : ℕ) (xs ys zs ws : List Square) → length xs ≡ n → length ys ≡ n →
-    length zs ≡ n → length ws ≡ n → length (xs ++ (ys ++ (zs ++ ws))) ≡ 4 * n
-length_four n xs ys zs ws e f g h =
-    rw (length-append xs (ys ++ (zs ++ ws)), length-append ys (zs ++ ws), length-append zs ws)
-    (omega (arith, e, f, g, h))
-
-length_split : (size : ℕ) (a b c d : Tree) → length (squares_of size a) ≡ squares size →
-    length (squares_of size b) ≡ squares size → length (squares_of size c) ≡ squares size →
-    length (squares_of size d) ≡ squares size →
-    length (squares_of (suc size) (Split a b c d)) ≡ squares (suc size)
-length_split size a b c d e f g h =
-    length_four (squares size) (squares_of size a) (squares_of size b) (squares_of size c)
-    (squares_of size d) e f g h
-
--- by the tests of the definition
-length_by_leaf : (site : Site) (p : Plan) (size address : ℕ) (u : Unit) →
-    is_outside site address ≡ false → slice_get p.units address ≡ Some u →
-    (t : Bool) → ends (suc size) u.depth ≡ t →
-    ((a : ℕ) → length (squares_of size (tree_at site p size a)) ≡ squares size) →
-    length (squares_of (suc size) (tree_at site p (suc size) address)) ≡ squares (suc size)
-length_by_leaf site p size address u h g true e k =
-    rw (leaf_tree site p (suc size) address u h g e) (length_leaf_of p (suc size) address u.pred)
-length_by_leaf site p size address u h g false e k =
-    rw (split_tree site p size address u h g e)
-    (length_split size _ _ _ _ (k address) (k (address + squares size))
-    (k (address + 2 * squares size)) (k (address + 3 * squares size)))
-
-length_by_unit : (site : Site) (p : Plan) (size address : ℕ) (o : Option Unit) →
-    is_outside site address ≡ false → slice_get p.units address ≡ o →
-    ((a : ℕ) → length (squares_of size (tree_at site p size a)) ≡ squares size) →
-    length (squares_of (suc size) (tree_at site p (suc size) address)) ≡ squares (suc size)
-unfolding tree_at
-length_by_unit site p size address None h g k =
-    rw h (rw g (length_split size _ _ _ _ (k address) (k (address + squares size))
-    (k (address + 2 * squares size)) (k (address + 3 * squares size))))
-length_by_unit site p size address (Some u) h g k =
-    length_by_leaf site p size address u h g (ends (suc size) u.depth) refl k
-
-length_least : (site : Site) (p : Plan) (address : ℕ) (o : Option Unit) →
-    is_outside site address ≡ false → slice_get p.units address ≡ o →
-    length (squares_of zero (tree_at site p zero address)) ≡ squares zero
-unfolding tree_at
-length_least site p address None h g = rw h (rw g (length_outside zero))
-length_least site p address (Some u) h g = rw h (rw g (length_leaf_of p zero address u.pred))
-
-length_inside : (site : Site) (p : Plan) (size address : ℕ) (t : Bool) → is_outside site address ≡ t →
-    (t ≡ false → length (squares_of size (tree_at site p size address)) ≡ squares size) →
-    length (squares_of size (tree_at site p size address)) ≡ squares size
-length_inside site p size address true e k =
-    rw (outside_tree site p size address e) (length_outside size)
-length_inside site p size address false e k = k refl
-
-pub length_node : (site : Site) (p : Plan) (size address : ℕ) →
-    length (squares_of size (tree_at site p size address)) ≡ squares size
-length_node site p zero address =
-    length_inside site p zero address (is_outside site address) refl
-    (λ h. length_least site p address (slice_get p.units address) h refl)
-length_node site p (suc size) address =
-    length_inside site p (suc size) address (is_outside site address) refl
-    (λ h. length_by_unit site p size address (slice_get p.units address) h refl
-    (λ a. length_node site p size a))
-
 -- ---- what is seen behind a node
 behind : (n m a : ℕ) (xs ys : List Square) (f : ℕ → Square) → length xs ≡ n → length ys ≡ m →
     (a < n → slice_index_or xs a Unavailable ≡ f a) →
@@ -136,7 +60,7 @@ pub shows_after : (b : Block) (size address : ℕ) (earlier : List Square) → S
     Shows (place_of b) (plan_of b) (address + squares size) (after size earlier (node_of b size address))
 shows_after b size address earlier shows names =
     let own : List Square = squares_of size (node_of b size address) in
-    let n : length own ≡ squares size = length_node (place_of b) (plan_of b) size address in
+    let n : length own ≡ squares size = length-tree_at (place_of b) (plan_of b) size address in
     record {
       count = length-append earlier own ∙ omega (arith, n, shows.count);
       square = λ a below inside.
@@ -211,7 +135,7 @@ names_parts site p size address u h g e names =
     let tree : ℕ → Tree = tree_at site p size in
     let at : ℕ → List Square = λ a. squares_of size (tree a) in
     let count : (a : ℕ) → length (at a) ≡ squares size =
-    λ a. length_node site p size a in
+    λ a. length-tree_at site p size a in
     let whole : List Square = at address ++ (at (address + n) ++ (at (address + 2 * n) ++
     at (address + 3 * n))) in
     let is_whole : squares_of (suc size) (tree_at site p (suc size) address) ≡ whole =
@@ -243,10 +167,6 @@ pub record Children (site : Site) (p : Plan) (below step address : ℕ) : Type 0
   pub third : NamesNode site p below (address + 2 * step)
   pub fourth : NamesNode site p below (address + 3 * step)
 
-pub some_squares : (size : ℕ) → 1 ≤ squares size
-some_squares zero = omega arith
-some_squares (suc size) = omega (arith, some_squares size)
-
 abbrev HasChildren : Site → Plan → ℕ → ℕ → ℕ → Unit → ℕ → Type 0
 HasChildren site p below step address u size =
     step ≡ squares below → is_outside site address ≡ false →
@@ -259,7 +179,7 @@ children_of site p below step address u is_step inside at split room names =
     let parts = names_parts site p below address u inside at split names in
     record {
       room = omega (arith, room, is_step);
-      some = omega (arith, some_squares below, is_step);
+      some = omega (arith, squares_above_0 below, is_step);
       first = parts.first;
       second = subst (λ (n : ℕ). NamesNode site p below (address + n)) (sym is_step) parts.second;
       third = subst (λ (n : ℕ). NamesNode site p below (address + 2 * n)) (sym is_step) parts.third;

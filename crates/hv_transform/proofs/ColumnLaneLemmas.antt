@@ -6,12 +6,13 @@ use Rattle.std.proofs.lemmas.Int.{int_wrap-add_left, int_wrap-sub_right, ints, u
 use mir.Syntax.{w16, w32}
 use lib.ListN.{get_or}
 use mir.Val.{SFits, of_z, to_z}
-use Rattle.hv_lanes.proofs.LaneStepLemmas.{by_four, differed, differed_at, passed}
+use Rattle.hv_lanes.proofs.LaneStepLemmas.{differed, differed_at, passed}
 use Rattle.hv_lanes.proofs.FourLaneLemmas.{IsSum, kept_four, numbers_of_lanes, same_lanes}
 use Rattle.hv_lanes.specs.Lanes.{FourLanes, at, in_pairs, weight}
 use Rattle.hv_transform.specs.Columns.{AreFew, ColumnSums, HasWeights, HaveBits, column_sum, in_order, lane_sum, numbers_from, odd_sum, two_sums}
 use Rattle.hv_transform.proofs.ColumnHalfLemmas.{high_half, low_half}
 use Rattle.hv_sample_model.specs.Blocks.{sum_of}
+use Rattle.hv_lemmas.proofs.ComputedLemmas.{each_of_four}
 
 parted : (a b : ℤ) → int_wrap w32 (int_wrap w32 a -ℤ int_wrap w32 b) ≡ int_wrap w32 (a -ℤ b)
 parted a b = int_wrap-add_left w32 a (neg_ℤ (int_wrap w32 b)) ∙ int_wrap-sub_right w32 a b
@@ -27,7 +28,7 @@ lanes_mirrored f g a b h k =
     parted (f j) (g j) in
     record {
       count = refl;
-      each = by_four (λ j. at (backwards a b) j ≡ int_wrap w32 (f (3 - j) -ℤ g (3 - j)))
+      each = each_of_four (λ j. at (backwards a b) j ≡ int_wrap w32 (f (3 - j) -ℤ g (3 - j)))
           (one 3 (omega arith)) (one 2 (omega arith)) (one 1 (omega arith)) (one 0 (omega arith));
     }
 

@@ -12,7 +12,8 @@ use Rattle.std.proofs.lemmas.Int.{SFits-int_wrap, ints, to_z-of_z}
 use Rattle.std.proofs.Math.IntN.{*ℤ_comm}
 use Rattle.std.specs.Int.{int_wrap}
 use Rattle.hv_sample_model.specs.Blocks.{sum_of}
-use Rattle.hv_lanes.proofs.LaneStepLemmas.{by_four, passed}
+use Rattle.hv_lanes.proofs.LaneStepLemmas.{passed, regroup}
+use Rattle.hv_lemmas.proofs.ComputedLemmas.{each_of_four}
 
 others : (k : ℕ) (xs : List ℤ) (ys : List ℕ) → length xs ≡ 2 → get_or (map (of_z w16) (take 2 xs) ++ ys) (suc (suc k)) 0 ≡ get_or ys k 0
 others k [] ys l = absurd (omega arith)
@@ -49,9 +50,6 @@ number_of_pair rows p i h small =
 
 next_number : (rows : List (List ℤ)) (p i h : ℕ) → h < 2 → at (pair_of (table_row rows (p + 1)) i) h ≡ in_pairs rows i (2 * p + (2 + h))
 next_number rows p i h small = number_of_pair rows (p + 1) i h small ∙ ap (in_pairs rows i) (omega arith)
-
-regroup : (p q r s : ℤ) → (p +ℤ q) +ℤ (r +ℤ s) ≡ pos 0 +ℤ p +ℤ q +ℤ r +ℤ s
-regroup p q r s = omega (arith, ints)
 
 pub quad_sum : (w : List ℤ) (rows : List (List ℤ)) (p i j : ℕ) → quad (pair_of (table_row rows p) i) (pair_of (table_row rows (p + 1)) i) w j ≡ int_wrap w32 (lane_sum w rows i (2 * p) j)
 unfolding sum_of
@@ -97,7 +95,7 @@ quarter_sums w rows p i =
     let b : List ℤ = pair_of (table_row rows (p + 1)) i in
     record {
       count = refl;
-      each = by_four (λ j. at (quarter a b w) j ≡ int_wrap w32 (lane_sum w rows i (2 * p) j))
+      each = each_of_four (λ j. at (quarter a b w) j ≡ int_wrap w32 (lane_sum w rows i (2 * p) j))
           (quad_sum w rows p i 0) (quad_sum w rows p i 1) (quad_sum w rows p i 2) (quad_sum w rows p i 3);
     }
 

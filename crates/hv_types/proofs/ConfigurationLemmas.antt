@@ -1,7 +1,7 @@
 -- What follows from settings without a fault.
 use Rattle.std.specs.Prelude.{◌≡◌, ℕ, ◌+◌, ◌*◌, ◌/◌, ◌%◌, ◌^◌, ◌<◌, ◌≤◌, Bool, true, false, ◌||◌, nat_lt, List, [], ◌∷◌, Option, Some, None, option_map, refl}
 use Rattle.std.proofs.Common.{arith}
-use Rattle.std.proofs.lemmas.Bool.{ltb-false, eqb-false}
+use Rattle.std.proofs.lemmas.Bool.{ltb-false, eqb-false, or_parts}
 use Rattle.std.proofs.lemmas.Nat.{mul-le}
 use Rattle.hv_types.specs.declared.settings.Settings.{Settings}
 use Rattle.hv_types.specs.declared.settings.ConfigError.{ConfigError}
@@ -22,12 +22,8 @@ all_unmet : {A : Type 0} (ts : List (Bool × A)) → first_met ts ≡ None → A
 all_unmet [] e = tt
 all_unmet (t ∷ ts) e = let here = this_unmet t.0 t.1 ts e in (here.0, all_unmet ts here.1)
 
-neither : (a b : Bool) → (a || b) ≡ false → (a ≡ false) × (b ≡ false)
-neither false b e = (refl, e)
-neither true b e = absurd cc
-
 inside : (low high n : ℕ) → is_outside low high n ≡ false → (low ≤ n) × (n ≤ high)
-inside low high n e = let both = neither (nat_lt n low) (nat_lt high n) e in (ltb-false n low both.0, ltb-false high n both.1)
+inside low high n e = let both = or_parts (nat_lt n low) (nat_lt high n) e in (ltb-false n low both.0, ltb-false high n both.1)
 
 even : (n : ℕ) → is_odd n ≡ false → n % 2 ≡ 0
 even n e = let apart : n % 2 ≡ 1 → ⊥ = eqb-false (n % 2) 1 e in omega (arith, apart)
@@ -42,8 +38,8 @@ valid s e =
     let parts = both_none (first_met (size_tests s)) (field_out_of_range s) e in
     let size = all_unmet (size_tests s) parts.0 in
     let field = all_unmet (field_tests s) parts.1 in
-    let evens = neither (is_odd s.width) (is_odd s.height) size.0 in
-    let sizes = neither (is_outside 8 4096 s.width) (is_outside 8 2176 s.height) size.1.0 in
+    let evens = or_parts (is_odd s.width) (is_odd s.height) size.0 in
+    let sizes = or_parts (is_outside 8 4096 s.width) (is_outside 8 2176 s.height) size.1.0 in
     let width = inside 8 4096 s.width sizes.0 in
     let height = inside 8 2176 s.height sizes.1 in
     record {

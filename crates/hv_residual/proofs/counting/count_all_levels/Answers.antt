@@ -1,7 +1,7 @@
 use Rattle.std.proofs.Common.{take, ◌∙◌, arith}
-use Rattle.hv_residual.proofs.SignificanceLemmas.{one_of}
 use Rattle.hv_residual.proofs.CountLemmas.{level_count_parts}
 use Rattle.hv_residual.proofs.counting.count_all_levels.Goals as goal
+use Rattle.hv_lemmas.proofs.BooleanLemmas.{one_of}
 
 pub returns-clause-value : goal.returns-clause-value
 returns-clause-value c =

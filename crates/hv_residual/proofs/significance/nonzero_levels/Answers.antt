@@ -3,8 +3,8 @@ use Rattle.std.specs.Int.{is_negative}
 use Rattle.std.specs.Int.RustNames.{unsigned_abs}
 use Rattle.hv_residual_model.specs.ResidualBins.{is_significant, magnitudes}
 use Rattle.std.proofs.lemmas.List.{length-set, length-take-le}
-use Rattle.hv_lemmas.proofs.BooleanLemmas.{one_at_most}
-use Rattle.hv_residual.proofs.SignificanceLemmas.{magnitude_step, sign_step, one_of, no_magnitude}
+use Rattle.hv_lemmas.proofs.BooleanLemmas.{one_at_most, one_of}
+use Rattle.hv_residual.proofs.SignificanceLemmas.{magnitude_step, sign_step, no_magnitude}
 use Rattle.hv_residual.proofs.significance.nonzero_levels.Goals as goal
 
 pub loop-level-preserved : goal.loop-level-preserved

@@ -1,10 +1,11 @@
 use Rattle.std.proofs.Common.{◌≡◌, ℕ, ◌+◌, ◌-◌, ◌*◌, ◌∙◌, sym, true, length, arith}
 use Rattle.hv_unit_model.specs.Bins.{split_bins, bins_of_node}
 use Rattle.hv_syntax.specs.Blocks.{node_of, place_of, plan_of}
-use Rattle.hv_syntax.proofs.NodeLemmas.{size_of_split, some_squares, children}
+use Rattle.hv_syntax.proofs.NodeLemmas.{size_of_split, children}
 use Rattle.hv_syntax.proofs.QuadtreeLemmas.{puts_split}
 use Rattle.hv_syntax.proofs.CountedLemmas.{counts, puts_count, count_put, count_outside, count_node_of_leaf}
 use Rattle.hv_syntax.proofs.counting_tree.+count_node_of.Goals as goal
+use Rattle.hv_unit_model.proofs.NodeLemmas.{squares_above_0}
 
 pub returns-then-is_outside-clause-value : goal.returns-then-is_outside-clause-value
 returns-then-is_outside-clause-value t c = λ s earlier sees shows.
@@ -12,7 +13,7 @@ returns-then-is_outside-clause-value t c = λ s earlier sees shows.
     (sym c.is_outside.ensures ∙ c.if-is_outside.true)
 
 pub returns-then-is_outside-clause-most : goal.returns-then-is_outside-clause-most
-returns-then-is_outside-clause-most t c = omega (arith, some_squares c.args.size)
+returns-then-is_outside-clause-most t c = omega (arith, squares_above_0 c.args.size)
 
 pub returns-then-is_leaf-clause-value : goal.returns-then-is_leaf-clause-value
 returns-then-is_leaf-clause-value t c = λ s earlier sees shows.
@@ -24,7 +25,7 @@ returns-then-is_leaf-clause-value t c = λ s earlier sees shows.
 
 pub returns-then-is_leaf-clause-most : goal.returns-then-is_leaf-clause-most
 returns-then-is_leaf-clause-most t c =
-    omega (arith, some_squares c.args.size, c.count_leaf.ensures.most)
+    omega (arith, squares_above_0 c.args.size, c.count_leaf.ensures.most)
 
 pub count_node_of-first-requires : goal.count_node_of-first-requires
 count_node_of-first-requires t c =

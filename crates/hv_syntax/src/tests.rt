@@ -7,10 +7,7 @@ use crate::recorder::{Bin, Compared, Recorder};
 use crate::{count_node, most_probable, names_its_node, names_its_units, put_ctb};
 use hv_block::{Block, Edges, Neighbours};
 use hv_plan::{Mv, Node, Place, Pred, SaoComponent, SaoKind, SaoParam};
-use hv_types::CtxTable::{
-    CbfChroma, CbfLuma, ChromaMode, Merge, MvdGreater0, MvdGreater1, MvpFlag, PartMode, PredMode,
-    PrevIntra, RootCbf, SaoType, Skip, Split,
-};
+use hv_types::CtxTable::{Merge, MvdGreater0, MvdGreater1, MvpFlag, PartMode, PredMode, PrevIntra, RootCbf, SaoType, Skip, Split};
 use hv_types::{NoMemory, SliceKind};
 use std::alloc::Global;
 use std::process::Abort;

@@ -1,19 +1,15 @@
 -- What is shown of a group whose pictures are blank: all of them, by rising count (C.5.2.2).
-use Rattle.std.proofs.Common.{◌≡◌, ℕ, zero, suc, ◌+◌, ◌-◌, ◌≤◌, Bool, true, false, List, [], ◌∷◌, ◌++◌, length, map, refl, sym, ap, ap₂, ◌∙◌, arith}
+use Rattle.std.proofs.Common.{◌≡◌, ℕ, ◌+◌, Bool, true, false, List, [], ◌∷◌, ◌++◌, length, map, refl, sym, ap, ap₂, ◌∙◌, arith}
 use Rattle.std.specs.Prelude.{◌&&◌, nat_eq, cond, filter, flat_map, Option, Some, None, option_map}
 use Rattle.std.specs.List.{list_all}
 use Rattle.std.proofs.lemmas.List.{map-append}
-use Rattle.hv_types.specs.declared.picture.Picture.{Picture}
 use Rattle.hv_types.specs.declared.settings.Settings.{Settings}
 use Rattle.hv_group_model.specs.Structure.{Coded, coding, rising}
 use Rattle.hv_group_model.proofs.NumberListLemmas.{length-rising}
 use Rattle.hv_stream_model.specs.Headers.{Size, most_count}
 use Rattle.hv_unit_model.specs.Trees.{CodingTreeUnit}
-use Rattle.hv_model.specs.Slices.{count_of}
-use Rattle.hv_model.specs.Parsing.{CodedPicture, Sequence, begins_with_idr}
 use Rattle.hv_model.specs.Reconstruction.{is_blank, grey, DecodedPicture, filtered_picture}
 use Rattle.hv_model.specs.Decoding.{has_count, decoded_from, are_different, counts_of, decoded_sequence, by_count, cropped, shown_sequence}
-use Rattle.hv_model.specs.Encoding.{header_in}
 use Rattle.hv_model.proofs.OrderLemmas.{numbers_of, in_order, IsGood}
 use Rattle.hv_model.proofs.KeepingLemmas.{shown_at, coded_at, count_in, group_decoded}
 use Rattle.hv_stream_model.proofs.StreamLemmas.{same_bytes-true}

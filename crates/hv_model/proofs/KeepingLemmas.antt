@@ -1,23 +1,20 @@
 -- The pictures of a group are decoded: what each set names is kept (8.3.2), where every picture is
 -- blank.
-use Rattle.std.proofs.Common.{◌≡◌, ℕ, zero, suc, ◌+◌, ◌-◌, ◌<◌, ◌≤◌, Bool, true, false, List, [], ◌∷◌, ◌++◌, length, map, take, drop, refl, sym, ap, ap₂, ◌∙◌, subst, arith, inl, inr, append_assoc, append-nil, eq-eqb, ne_eqb, eqb-true}
-use Rattle.std.specs.Prelude.{◌⊎◌, ◌&&◌, ◌||◌, nat_eq, nat_lt, not, cond, filter, flat_map, Option, Some, None, option_and_then, option_map}
+use Rattle.std.proofs.Common.{◌≡◌, ℕ, zero, suc, ◌+◌, ◌-◌, ◌<◌, ◌≤◌, Bool, true, false, List, [], ◌∷◌, ◌++◌, length, map, take, drop, refl, sym, ap, ap₂, ◌∙◌, subst, arith, inl, inr, append_assoc, eq-eqb, eqb-true}
+use Rattle.std.specs.Prelude.{◌⊎◌, ◌&&◌, ◌||◌, nat_eq, nat_lt, not, cond, filter, Option, Some, option_and_then, option_map}
 use Rattle.std.specs.List.{list_all, list_any}
 use Rattle.std.proofs.lemmas.Bool.{and_parts, ltb-true, or_right, false≢true, cases_lt, not-true, and_from, cases_Bool}
 use Rattle.std.proofs.lemmas.Bool.Decides.{nat_tests}
 use Rattle.std.proofs.lemmas.List.Folds.{list_any-append}
 use Rattle.std.proofs.Math.Seq.{take-append_seam, drop-append_seam}
-use Rattle.hv_types.specs.declared.picture.Picture.{Picture}
 use Rattle.hv_types.specs.declared.settings.Settings.{Settings}
-use Rattle.hv_types.specs.Configuration.{most_levels}
 use Rattle.hv_group_model.specs.Structure.{Coded, coded, coding, blocks, anchors, is_among, is_referred, is_kept, place_in, falling, rising}
 use Rattle.hv_stream_model.specs.Headers.{Size, SliceHeader}
 use Rattle.hv_unit_model.specs.Trees.{CodingTreeUnit}
-use Rattle.hv_model.specs.Slices.{count_of, set_counts, list_0}
+use Rattle.hv_slice_model.specs.Slices.{count_of, set_counts, list_0, header_in}
 use Rattle.hv_model.specs.Parsing.{CodedPicture}
 use Rattle.hv_model.specs.Reconstruction.{is_blank, grey, DecodedPicture, filtered_picture, reconstructed}
 use Rattle.hv_model.specs.Decoding.{has_count, found_then, named, decoded_picture, decoded_from, are_different}
-use Rattle.hv_model.specs.Encoding.{header_in}
 use Rattle.hv_model.proofs.MembershipLemmas.{either, or_left, Among, AllAmong, among_first, among_behind, among_left, among_right, among_passes, among_stays, among_falling, among_rising}
 use Rattle.hv_model.proofs.OrderLemmas.{numbers_of, IsGood}
 use Rattle.hv_model.proofs.ReferenceLemmas.{list_named, others_of, set_of_kept}

@@ -1,6 +1,4 @@
 pub mod CodedUnitLemmas
-mod ContextLemmas
-pub mod SliceDataLemmas
 pub mod PayloadLemmas
 pub mod SliceLemmas
 pub mod GroupLemmas
@@ -13,7 +11,6 @@ mod ListZeroLemmas
 mod WrittenUnitLemmas
 pub mod RoundTripLemmas
 mod WorkedBlanks
-mod WorkedSlices
 mod WorkedStreams
 mod WorkedRefusals
 mod WorkedSequences

@@ -1,20 +1,17 @@
 -- List 0 (8.3.4) of the pictures of a group: the used members of a set give the references.
 use Rattle.std.proofs.Common.{◌≡◌, ℕ, zero, suc, ◌+◌, ◌-◌, ◌<◌, ◌≤◌, Bool, true, false, List, [], ◌∷◌, ◌++◌, length, map, take, drop, slice_index_or, refl, sym, ap, ap₂, ◌∙◌, arith, cond, inl, inr, eqb-true}
-use Rattle.std.specs.Prelude.{◌⊎◌, ◌&&◌, ◌||◌, nat_eq, filter, flat_map}
+use Rattle.std.specs.Prelude.{◌||◌, nat_eq, filter, flat_map}
 use Rattle.std.specs.List.{list_all, list_any}
 use Rattle.std.proofs.lemmas.Bool.{and_parts, false≢true, and_from}
 use Rattle.std.proofs.lemmas.Bool.Decides.{nat_tests}
-use Rattle.std.proofs.lemmas.List.Elements.{filter-append}
-use Rattle.hv_types.specs.Configuration.{most_levels}
 use Rattle.hv_lemmas.proofs.ComputedLemmas.{holds_at}
-use Rattle.hv_group_model.specs.Structure.{Coded, Kept, coded, coding, coded_of, is_among, is_referred, is_kept, kept, kept_among, references_at, place_in, falling, rising}
+use Rattle.hv_group_model.specs.Structure.{Coded, Kept, coded, coding, is_among, is_referred, is_kept, kept, kept_among, references_at, place_in, falling, rising}
 use Rattle.hv_stream_model.specs.Headers.{most_count}
-use Rattle.hv_stream_model.specs.HeaderLaws.{header_of}
-use Rattle.hv_model.specs.Slices.{counts_before, counts_after, used, list_0}
+use Rattle.hv_slice_model.specs.Slices.{counts_before, counts_after, used}
 use Rattle.hv_model.specs.ReferenceLaws.{SetsGiveTheReferences}
-use Rattle.hv_model.proofs.MembershipLemmas.{either, or_left, Among, among_left, among_behind, among_parts, among_rising}
+use Rattle.hv_model.proofs.MembershipLemmas.{either, or_left, Among, among_behind, among_parts, among_rising}
 use Rattle.hv_model.proofs.OrderLemmas.{numbers_of, in_order, refers_well, IsGood, orders_good}
-use Rattle.hv_model.proofs.ReferenceLemmas.{back_before, back_after, others_of}
+use Rattle.hv_model.proofs.ReferenceLemmas.{back_before, back_after}
 use Rattle.hv_stream_model.proofs.StreamLemmas.{same_bytes-true}
 
 -- ---- the used ones of a side are those that the picture refers to, where these are kept

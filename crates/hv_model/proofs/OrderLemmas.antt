@@ -1,12 +1,11 @@
 -- The coding orders of all groups: found by computing all structures.
-use Rattle.std.proofs.Common.{◌≡◌, ℕ, zero, suc, ◌+◌, ◌-◌, ◌<◌, ◌≤◌, Bool, true, List, [], ◌∷◌, ◌++◌, length, map, drop, slice_index_or, refl, sym, ap, ap₂, ◌∙◌, arith, inl, inr, eqb-true}
-use Rattle.std.specs.Prelude.{◌⊎◌, ◌&&◌, nat_eq, nat_lt, filter, flat_map, take}
+use Rattle.std.proofs.Common.{◌≡◌, ℕ, ◌+◌, ◌-◌, ◌≤◌, Bool, true, List, ◌++◌, map, drop, refl, arith, inl, inr}
+use Rattle.std.specs.Prelude.{◌&&◌, nat_eq, nat_lt, filter, flat_map, take}
 use Rattle.std.specs.List.{list_all, list_any}
 use Rattle.std.proofs.lemmas.Bool.{and_parts, cases_lt}
 use Rattle.hv_types.specs.Configuration.{most_levels}
 use Rattle.hv_group_model.specs.Structure.{Coded, coding, place_in, is_among, falling, rising}
-use Rattle.hv_group_model.proofs.NumberListLemmas.{rising_at, length-rising, in_range}
-use Rattle.hv_lemmas.proofs.ComputedLemmas.{holds_at}
+use Rattle.hv_group_model.proofs.NumberListLemmas.{in_range}
 use Rattle.hv_stream_model.specs.Headers.{most_count}
 use Rattle.hv_stream_model.specs.Units.{same_bytes}
 use Rattle.hv_model.specs.Decoding.{are_different}

@@ -1,17 +1,17 @@
 -- Reference picture sets (8.3.2) and list 0 (8.3.4) by the counts of their pictures.
 use Rattle.std.proofs.Common.{◌≡◌, ℕ, zero, suc, ◌+◌, ◌-◌, ◌<◌, ◌≤◌, Bool, true, false, List, [], ◌∷◌, ◌++◌, length, map, refl, sym, ap, ap₂, ◌∙◌, arith, inl, inr, cond, length-append}
-use Rattle.std.specs.Prelude.{◌⊎◌, nat_eq, filter}
+use Rattle.std.specs.Prelude.{nat_eq, filter}
 use Rattle.std.specs.Int.{abs_diff}
-use Rattle.std.specs.List.{list_any, count_by}
+use Rattle.std.specs.List.{list_any}
 use Rattle.std.proofs.lemmas.Bool.Decides.{nat_tests}
 use Rattle.std.proofs.lemmas.List.{length-map}
 use Rattle.std.proofs.lemmas.List.Sums.{length-filter}
 use Rattle.std.proofs.lemmas.List.Elements.{filter-append}
-use Rattle.hv_group_model.specs.Structure.{Coded, Kept, kept, is_kept, kept_among, references_at, place_in, falling, rising}
-use Rattle.hv_stream_model.specs.Headers.{SliceHeader, used_in, used_count}
+use Rattle.hv_group_model.specs.Structure.{Coded, Kept, kept, is_kept, kept_among, place_in, falling, rising}
+use Rattle.hv_stream_model.specs.Headers.{SliceHeader, used_in}
 use Rattle.hv_stream_model.specs.HeaderLaws.{header_of}
 use Rattle.hv_group_model.specs.Structure.{coding}
-use Rattle.hv_model.specs.Slices.{counts_before, counts_after, set_counts, used, list_0}
+use Rattle.hv_slice_model.specs.Slices.{counts_before, counts_after, set_counts, used, list_0}
 use Rattle.hv_model.specs.ReferenceLaws.{ListZeroHasTheActiveReferences}
 use Rattle.hv_model.proofs.MembershipLemmas.{either, or_left, among_behind, among_left, among_right, among_parts, Among, AllAmong}
 

@@ -1,8 +1,7 @@
 -- What is written decodes to what is shown.
-use Rattle.std.proofs.Common.{◌≡◌, ◌≢◌, ℕ, zero, suc, ◌-◌, ◌*◌, ◌/◌, ◌%◌, ◌<◌, ◌≤◌, Bool, true, false, List, [], ◌∷◌, ◌++◌, length, map, refl, sym, ap, ap₂, ◌∙◌, arith, eq-eqb}
+use Rattle.std.proofs.Common.{◌≡◌, ◌≢◌, ℕ, zero, suc, ◌-◌, ◌*◌, ◌/◌, ◌%◌, ◌<◌, ◌≤◌, true, List, [], ◌∷◌, ◌++◌, length, map, refl, ap, ap₂, ◌∙◌, arith, eq-eqb}
 use Rattle.std.proofs.lemmas.Bool.{and_parts, eqb-true, ltb-true, not-true}
-use Rattle.std.proofs.lemmas.Bool.Decides.{nat_tests}
-use Rattle.std.specs.Prelude.{not, cond, nat_eq, nat_lt, flat_map, filter, drop, Option, Some, option_and_then, option_map}
+use Rattle.std.specs.Prelude.{not, nat_lt, flat_map, Option, Some, option_and_then, option_map}
 use Rattle.std.specs.List.{list_all}
 use Rattle.hv_types.specs.declared.settings.Settings.{Settings}
 use Rattle.hv_types.specs.declared.picture.Picture.{Picture}
@@ -13,19 +12,19 @@ use Rattle.hv_stream_model.specs.Headers.{Size, SliceHeader, vps, sps, pps, used
 use Rattle.hv_stream_model.specs.HeaderLaws.{IsAllowed, OtherSlicesAreRead, OtherSlicesAreCodable, SlicesOfGroupsAreAllowed, header_of}
 use Rattle.hv_stream_model.specs.UnitLaws.{stream_of}
 use Rattle.hv_group_model.specs.Structure.{Coded, coding, blocks, anchors, qp_at}
-use Rattle.hv_unit_model.specs.Sites.{Site}
 use Rattle.hv_unit_model.specs.Trees.{CodingTreeUnit}
 use Rattle.hv_model.specs.PayloadLaws.{IsHeader, of_idr, of_other}
-use Rattle.hv_model.specs.Parsing.{CodedPicture, Sequence, begins_with_idr, in_front, cut_at_idrs, sequences_of, picture_of_unit, is_passed_over, picture_then, pictures_of_units, parameters, with_parameters, sequences_after_sets, parsed_units, parsed_of}
-use Rattle.hv_model.specs.Reconstruction.{is_blank, grey, filtered_picture}
-use Rattle.hv_model.specs.Decoding.{cropped, shown_sequence, shown_then, shown_of, decode_of}
-use Rattle.hv_model.specs.Encoding.{coded_units, picture_sites, header_in, recon_picture, encode_group, groups_of, encode_of, recon_of}
+use Rattle.hv_model.specs.Parsing.{CodedPicture, Sequence, begins_with_idr, in_front, cut_at_idrs, sequences_of, picture_of_unit, picture_then, pictures_of_units, parameters, with_parameters, sequences_after_sets, parsed_units}
+use Rattle.hv_model.specs.Decoding.{shown_sequence, shown_then, shown_of, decode_of}
+use Rattle.hv_slice_model.specs.Slices.{picture_sites, header_in}
+use Rattle.hv_model.specs.Encoding.{coded_units, recon_picture, encode_group, groups_of}
 use Rattle.hv_model.specs.Built.{IsBuilt, is_built, BuiltIsDecided}
 use Rattle.hv_model.specs.RoundTrip.{DecodingGivesReconstruction}
 use Rattle.hv_stream_model.proofs.HeaderLemmas.{reads_vps, reads_sps, reads_pps, codable_vps, codable_sps, codable_pps, sizes_allowed}
 use Rattle.hv_stream_model.proofs.UnitLemmas.{streams_read, stream_of_units}
 use Rattle.hv_unit_model.proofs.UnitLemmas.{sites_there}
-use Rattle.hv_model.proofs.CodedUnitLemmas.{coded_units_valid, coded_units_blank}
+use Rattle.hv_slice_model.proofs.BlankUnitLemmas.{blank_units_valid}
+use Rattle.hv_model.proofs.CodedUnitLemmas.{coded_units_blank}
 use Rattle.hv_model.proofs.PayloadLemmas.{parameters-back}
 use Rattle.hv_model.proofs.SliceLemmas.{slices_back}
 use Rattle.hv_model.proofs.GroupLemmas.{AreGroups, groups_are}
@@ -178,7 +177,7 @@ module _
       slices_back reads_other codable_other cfg.levels (size_of cfg) header
       (coded_units (picture_sites cfg)) valid.levels (blocks_there cfg valid)
       (header_allowed cfg valid count c.picture few below)
-      (coded_units_valid header.slice_type (used_count header.references) (picture_sites cfg))
+      (blank_units_valid header.slice_type (used_count header.references) (picture_sites cfg))
 
   group_is_parsed : (cfg : Settings) → IsValid cfg → (count : ℕ) (order : List Coded)
       (behind : List NalUnit) (others : List CodedPicture) → count ≤ 64 →

@@ -1,16 +1,15 @@
 -- What is read of a slice is what it was made with.
-use Rattle.std.proofs.Common.{◌≡◌, ◌≢◌, ℕ, ◌+◌, ◌-◌, ◌/◌, ◌%◌, ◌^◌, ◌<◌, ◌≤◌, true, false, List, [], ◌∷◌, ◌++◌, length, refl, sym, ap, ◌∙◌, subst, arith, append_assoc, length-append, IsSomeAnd, ne_eqb}
-use Rattle.std.specs.Prelude.{nat_eq, cond, Option, Some, None, option_and_then, option_map}
+use Rattle.std.proofs.Common.{◌≡◌, ◌≢◌, ℕ, ◌+◌, ◌-◌, ◌%◌, ◌<◌, ◌≤◌, true, false, List, [], ◌++◌, length, refl, sym, ap, ◌∙◌, subst, arith, append_assoc, length-append, IsSomeAnd, ne_eqb}
+use Rattle.std.specs.Prelude.{nat_eq, Option, Some, None, option_and_then, option_map}
 use Rattle.hv_types.specs.declared.bins.SliceKind.{SliceKind}
-use Rattle.hv_types.specs.Configuration.{most_levels}
 use Rattle.hv_types.specs.Bins.{Bin}
-use Rattle.hv_stream_model.specs.Bits.{digits, bits_of, bytes_of}
+use Rattle.hv_stream_model.specs.Bits.{bits_of, bytes_of}
 use Rattle.hv_stream_model.specs.BitLaws.{AreBits}
 use Rattle.hv_stream_model.specs.Scripts.{Reads}
 use Rattle.hv_entropy_model.specs.Contexts.{first_variables}
 use Rattle.hv_entropy_model.specs.CodeWord.{Interval, first_interval, reach, odd_from, word}
 use Rattle.hv_stream_model.specs.Fields.{Field, AllCodable, HeaderScript, bits_of_fields, read_header, padding_of, aligned}
-use Rattle.hv_stream_model.specs.Units.{NalUnit, TRAIL_R, last_of}
+use Rattle.hv_stream_model.specs.Units.{NalUnit, TRAIL_R}
 use Rattle.hv_stream_model.specs.Headers.{Size, SliceHeader, used_count, idr_slice, slice, read_slice}
 use Rattle.hv_stream_model.specs.HeaderLaws.{OtherSlicesAreRead, OtherSlicesAreCodable}
 use Rattle.hv_entropy_model.specs.Oracle.{Oracle, begin, read, bits_left}
@@ -19,46 +18,23 @@ use Rattle.hv_unit_model.specs.Sites.{Site}
 use Rattle.hv_unit_model.specs.Validity.{AreValid}
 use Rattle.hv_unit_model.specs.Bins.{slice_bins}
 use Rattle.hv_unit_model.specs.BlockSyntax.{slice_segment_data}
-use Rattle.hv_model.specs.Slices.{idr_header, nal_unit_type_of, header_fields, word_behind, payload_of_slice, unit_of_slice}
-use Rattle.hv_model.specs.Parsing.{CodedPicture, behind_alignment, is_slice_end, if_ended, slice_data, data_behind, sites_of, picture_behind, picture_with, read_idr_header, picture_of_unit}
+use Rattle.hv_slice_model.specs.Slices.{idr_header, nal_unit_type_of, header_fields, word_behind, payload_of_slice, unit_of_slice}
+use Rattle.hv_model.specs.Parsing.{CodedPicture, behind_alignment, is_slice_end, if_ended, data_behind, sites_of, picture_behind, picture_with, read_idr_header, picture_of_unit}
 use Rattle.hv_stream_model.specs.BitLaws.{missing}
-use Rattle.hv_model.specs.PayloadLaws.{SliceDataIsRead, IsHeader, of_idr, of_other, SlicesAreRead, SlicesEnd}
+use Rattle.hv_model.specs.PayloadLaws.{SliceDataIsRead, of_idr, of_other, SlicesAreRead}
 use Rattle.hv_stream_model.proofs.ZeroLemmas.{zeros, length-zeros}
-use Rattle.hv_stream_model.proofs.DigitLemmas.{digits-add}
 use Rattle.hv_stream_model.proofs.BitLemmas.{AreBits-digits, AreBits-append}
 use Rattle.hv_stream_model.proofs.ScriptLemmas.{reads_map}
 use Rattle.hv_entropy_model.proofs.OracleLemmas.{script_reads_code_word}
 use Rattle.hv_stream_model.proofs.HeaderLemmas.{reads_idr_slice, codable_idr_slice}
 use Rattle.hv_unit_model.proofs.UnitLemmas.{reads_slice}
-use Rattle.hv_model.proofs.SliceDataLemmas.{slice_ends}
-use Rattle.hv_stream_model.proofs.FilledBitLemmas.{bytes_of-zeros, bits_of-bytes_of-zeros, AreBits-fields}
+use Rattle.hv_slice_model.proofs.SliceDataLemmas.{slice_ends}
+use Rattle.hv_slice_model.proofs.SliceEndLemmas.{word_ends}
+use Rattle.hv_stream_model.proofs.FilledBitLemmas.{bits_of-bytes_of-zeros, AreBits-fields}
 use Rattle.hv_model.proofs.PayloadLemmas.{AreBits-aligned, alignment-back, slice_end}
-use Rattle.hv_stream_model.proofs.FieldLemmas.{length-aligned, last_of-aligned, fields_read_back}
+use Rattle.hv_stream_model.proofs.FieldLemmas.{length-aligned, fields_read_back}
 
--- ---- the code word ends in a one
-
-pub record EndsInOne (bits : List ℕ) : Type 0 where
-  pub front : List ℕ
-  pub whole : bits ≡ front ++ 1 ∷ []
-
-odd_ends : (n v : ℕ) → EndsInOne (digits (n + 9) (odd_from v))
-odd_ends n v =
-    let split : n + 9 ≡ (n + 8) + 1 = omega arith in
-    let bit : odd_from v / 2 ^ 0 % 2 ≡ 1 = omega arith in
-    let parts : digits ((n + 8) + 1) (odd_from v) ≡
-    digits (n + 8) (odd_from v / 2 ^ 1) ++ digits 1 (odd_from v) =
-    digits-add (n + 8) 1 (odd_from v) in
-    record {
-      front = digits (n + 8) (odd_from v / 2 ^ 1);
-      whole =
-          ap (λ k. digits k (odd_from v)) split ∙ parts ∙
-          ap (λ (d : ℕ). digits (n + 8) (odd_from v / 2 ^ 1) ++ d ∷ []) bit;
-    }
-
-pub word_ends : (kind : SliceKind) (qp : ℕ) (list : List Bin) → EndsInOne (word kind qp list)
-word_ends kind qp list =
-    let i : Interval = reach (first_interval (first_variables kind qp)) list in
-    odd_ends i.n (i.low + i.range - 2)
+-- ---- the code word
 
 pub AreBits-word : (kind : SliceKind) (qp : ℕ) (list : List Bin) → AreBits (word kind qp list)
 AreBits-word kind qp list =
@@ -206,24 +182,3 @@ module _ (reads_other : OtherSlicesAreRead) (codable_other : OtherSlicesAreCodab
       picture_back (read_slice levels) size header (slice header) units nal
       (reads_other levels header allowed) (codable_other levels header few allowed) there valid
       payload
-
--- zeros behind a one fill its byte as an alignment does
-filled_one : (bits : List ℕ) → bytes_of (bits ++ 1 ∷ []) ≡ bytes_of (aligned bits)
-filled_one bits =
-    let code : List ℕ = bits ++ 1 ∷ [] in
-    let long : length code ≡ length bits + 1 = length-append bits (1 ∷ []) in
-    sym (bytes_of-zeros code) ∙
-    ap (λ k. bytes_of (code ++ zeros (missing k))) long ∙
-    ap bytes_of (append_assoc bits (1 ∷ []) (zeros (missing (length bits + 1))))
-
-pub slices_end : SlicesEnd
-slices_end header places units none =
-    let list : List Bin =
-    slice_bins header.slice_type (used_count header.references) places units in
-    let w = word_ends header.slice_type header.qp list in
-    let fields : List ℕ = aligned (bits_of_fields (header_fields header)) in
-    let parts : fields ++ word header.slice_type header.qp list ≡ (fields ++ w.front) ++ 1 ∷ [] =
-    ap (λ c. fields ++ c) w.whole ∙ sym (append_assoc fields w.front (1 ∷ [])) in
-    let bytes : payload_of_slice header places units ≡ bytes_of (aligned (fields ++ w.front)) =
-    ap bytes_of parts ∙ filled_one (fields ++ w.front) in
-    last_of-aligned (fields ++ w.front) (ap last_of (sym bytes) ∙ none)

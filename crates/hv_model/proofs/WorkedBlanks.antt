@@ -5,8 +5,8 @@ use Rattle.hv_plan.specs.declared.offsets.SaoKind.{SaoKind}
 use Rattle.hv_plan.specs.declared.offsets.SaoKind.TheVariants.{Off, Band, Edge}
 use Rattle.hv_plan.specs.declared.offsets.SaoComponent.{SaoComponent}
 use Rattle.hv_unit_model.specs.Trees.{Motion, Intra, Inter, Tree, Leaf, Split, Outside, CodingTreeUnit, no_levels, no_units}
-use Rattle.hv_model.specs.ModeDecision.{no_offset, no_offsets}
-use Rattle.hv_model.specs.Slices.{idr_header}
+use Rattle.hv_slice_model.specs.BlankUnits.{no_offset, no_offsets}
+use Rattle.hv_slice_model.specs.Slices.{idr_header}
 use Rattle.hv_model.specs.Reconstruction.{is_blank_tree, is_blank, grey, unfiltered_picture}
 
 abbrev flat : ℕ → Tree

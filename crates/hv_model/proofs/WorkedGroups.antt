@@ -1,9 +1,9 @@
 -- Five pictures of 8x8 as another encoder writes them, in one group with two temporal levels, and in
 -- two groups with none: that the one-thread encoder writes these bytes, and what is parsed and shown
 -- of them, computed by the definitions.
-use Rattle.std.proofs.Common.{◌≡◌, ℕ, Bool, true, false, List, [], ◌∷◌, map, refl}
-use Rattle.std.specs.Prelude.{Option, Some, None, option_map, replicate}
-use Rattle.hv_types.specs.declared.bins.SliceKind.TheVariants.{I, P}
+use Rattle.std.proofs.Common.{◌≡◌, ℕ, Bool, true, false, List, [], ◌∷◌, refl}
+use Rattle.std.specs.Prelude.{Some, None, replicate}
+use Rattle.hv_types.specs.declared.bins.SliceKind.TheVariants.{P}
 use Rattle.hv_types.specs.declared.settings.Settings.{Settings}
 use Rattle.hv_types.specs.declared.settings.Emit.TheVariants.{Stream}
 use Rattle.hv_types.specs.Video.{crop}
@@ -20,12 +20,12 @@ use Rattle.hv_unit_model.specs.EarlierUnits.{look_picture}
 use Rattle.hv_unit_model.specs.MostProbableModes.{candModeList, mode_of_remaining}
 use Rattle.hv_unit_model.specs.BlockSyntax.{sao, luma_mode, block_levels, transform_unit, quarters, transform_tree, intra_unit, coding_unit, coding_quadtree}
 use Rattle.hv_unit_model.specs.Bins.{sao_bins, luma_mode_bins, transform_unit_bins, quarters_bins, transform_tree_bins, predicted_bins, bins_of_node}
-use Rattle.hv_model.specs.ModeDecision.{blank_node}
-use Rattle.hv_model.specs.Slices.{idr_header, list_0}
+use Rattle.hv_slice_model.specs.BlankUnits.{blank_node}
+use Rattle.hv_slice_model.specs.Slices.{idr_header}
 use Rattle.hv_model.specs.Parsing.{Sequence, CodedPicture, parsed_of}
 use Rattle.hv_model.specs.Reconstruction.{grey}
 use Rattle.hv_model.specs.Encoding.{coded_units, encode_of}
-use Rattle.hv_model.specs.Decoding.{shown_of, decode_of}
+use Rattle.hv_model.specs.Decoding.{decode_of}
 
 abbrev five_pictures : List ℕ
 five_pictures =

@@ -5,10 +5,10 @@ use Rattle.hv_types.specs.declared.bins.SliceKind.{SliceKind}
 use Rattle.hv_types.specs.declared.bins.SliceKind.TheVariants.{I, P}
 use Rattle.hv_types.specs.Video.{crop}
 use Rattle.hv_group_model.specs.Structure.{Kept}
-use Rattle.hv_stream_model.specs.Headers.{Size, SliceHeader, used_count}
-use Rattle.hv_model.specs.Slices.{idr_header, set_counts, list_0}
+use Rattle.hv_stream_model.specs.Headers.{Size, SliceHeader}
+use Rattle.hv_slice_model.specs.Slices.{idr_header, set_counts, list_0}
 use Rattle.hv_model.specs.Parsing.{CodedPicture, Sequence, sequences_of, cut_at_idrs}
-use Rattle.hv_model.specs.Reconstruction.{grey, unfiltered_picture}
+use Rattle.hv_model.specs.Reconstruction.{grey}
 use Rattle.hv_model.specs.Decoding.{decoded_sequence, by_count, shown_of}
 
 abbrev kept : ℕ → Bool → Kept

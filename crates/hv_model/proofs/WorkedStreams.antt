@@ -15,7 +15,7 @@ use Rattle.hv_unit_model.specs.EarlierUnits.{look_picture}
 use Rattle.hv_unit_model.specs.MostProbableModes.{candModeList, mode_of_remaining}
 use Rattle.hv_unit_model.specs.BlockSyntax.{sao, luma_mode, block_levels, transform_unit, quarters, transform_tree, intra_unit, coding_unit, coding_quadtree}
 use Rattle.hv_unit_model.specs.Bins.{sao_bins, luma_mode_bins, transform_unit_bins, quarters_bins, transform_tree_bins, predicted_bins, bins_of_node}
-use Rattle.hv_model.specs.ModeDecision.{blank_node}
+use Rattle.hv_slice_model.specs.BlankUnits.{blank_node}
 use Rattle.hv_model.specs.Reconstruction.{grey}
 use Rattle.hv_model.specs.Encoding.{encode_of}
 use Rattle.hv_model.specs.Decoding.{decode_of}

@@ -13,10 +13,10 @@ use Rattle.hv_stream_model.proofs.FieldLemmas.{last_of-aligned}
 use Rattle.hv_group_model.specs.Structure.{Coded, coding}
 use Rattle.hv_unit_model.specs.Sites.{Site}
 use Rattle.hv_unit_model.specs.Trees.{CodingTreeUnit}
-use Rattle.hv_model.specs.Slices.{is_idr, nal_unit_type_of, unit_of_slice}
+use Rattle.hv_slice_model.specs.Slices.{is_idr, unit_of_slice, picture_sites, header_in}
 use Rattle.hv_model.specs.Parsing.{is_passed_over}
-use Rattle.hv_model.specs.Encoding.{coded_units, picture_sites, header_in, picture_unit, group_bytes, groups_of, encode_of}
-use Rattle.hv_model.proofs.SliceLemmas.{slices_end}
+use Rattle.hv_model.specs.Encoding.{coded_units, picture_unit, group_bytes, groups_of, encode_of}
+use Rattle.hv_slice_model.proofs.SliceEndLemmas.{slices_end}
 
 -- ---- the units
 

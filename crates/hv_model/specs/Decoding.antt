@@ -7,7 +7,7 @@ use Rattle.hv_types.specs.declared.picture.Picture.{Picture}
 use Rattle.hv_types.specs.Video.{crop}
 use Rattle.hv_group_model.specs.Structure.{rising}
 use Rattle.hv_stream_model.specs.Headers.{Size, most_count}
-use Rattle.hv_model.specs.Slices.{count_of, set_counts, list_0}
+use Rattle.hv_slice_model.specs.Slices.{count_of, set_counts, list_0}
 use Rattle.hv_model.specs.Parsing.{CodedPicture, Sequence, begins_with_idr, parsed_of}
 use Rattle.hv_model.specs.Reconstruction.{DecodedPicture, reconstructed}
 

@@ -8,42 +8,19 @@ use Rattle.hv_types.specs.Configuration.{padded_width, padded_height}
 use Rattle.hv_types.specs.declared.picture.Picture.{Picture}
 use Rattle.hv_types.specs.Video.{raw, crop}
 use Rattle.hv_stream_model.specs.Units.{unit_bytes}
-use Rattle.hv_stream_model.specs.Headers.{SliceHeader, parameter_sets}
-use Rattle.hv_stream_model.specs.HeaderLaws.{header_of}
-use Rattle.hv_group_model.specs.Structure.{qp_at, coding}
+use Rattle.hv_stream_model.specs.Headers.{parameter_sets}
+use Rattle.hv_group_model.specs.Structure.{coding}
 use Rattle.hv_unit_model.specs.Trees.{CodingTreeUnit}
-use Rattle.hv_unit_model.specs.Sites.{Site, sites}
-use Rattle.hv_unit_model.specs.Validity.{is_empty}
-use Rattle.hv_model.specs.ModeDecision.{no_offsets, best}
+use Rattle.hv_unit_model.specs.Sites.{Site}
+use Rattle.hv_slice_model.specs.BlankUnits.{blank_units}
+use Rattle.hv_slice_model.specs.Slices.{picture_sites, header_in, unit_of_slice}
 use Rattle.hv_model.specs.Reconstruction.{grey, filtered_picture}
-use Rattle.hv_model.specs.Slices.{idr_header, word_behind, payload_of_slice, unit_of_slice}
 
 -- ---- a picture of a group
 
 -- the coding tree units of these blocks, of which the last one ends the slice
 abbrev pub coded_units : List Site → List CodingTreeUnit
-coded_units [] = []
-coded_units (site ∷ sites) =
-    record { sao = no_offsets; tree = best site; end_of_slice_segment_flag = is_empty sites } ∷
-    coded_units sites
-
--- the slice data of a picture with these blocks
-abbrev pub slice_data_of : SliceHeader → List Site → List ℕ
-slice_data_of header sites = word_behind header sites (coded_units sites)
-
--- its slice: the header, a byte_alignment, and the code word with zeros to the byte
-abbrev pub slice_payload : SliceHeader → List Site → List ℕ
-slice_payload header sites = payload_of_slice header sites (coded_units sites)
-
--- the blocks of a padded picture
-abbrev pub picture_sites : Settings → List Site
-picture_sites cfg = sites (padded_width cfg) (padded_height cfg)
-
--- the slice header of a picture of a group of so many: the first one is an IDR picture of depth 0,
--- the others are P pictures
-abbrev pub header_in : Settings → ℕ → ℕ → SliceHeader
-header_in cfg count zero = idr_header (qp_at cfg.qp 0)
-header_in cfg count (suc k) = header_of count cfg.levels cfg.qp (suc k)
+coded_units sites = blank_units sites
 
 -- the unit of a picture of a group of so many
 abbrev pub picture_unit : Settings → ℕ → ℕ → List ℕ

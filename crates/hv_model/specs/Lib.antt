@@ -1,13 +1,10 @@
 pub mod Reconstruction
 pub mod Deblocking
 pub mod SampleAdaptiveOffset
-pub mod Slices
 pub mod Parsing
 pub mod Decoding
-pub mod ModeDecision
 pub mod Encoding
 pub mod Built
-pub mod SliceDataLaws
 pub mod PayloadLaws
 pub mod EncodingLaws
 pub mod ReferenceLaws

@@ -1,6 +1,6 @@
 -- The syntax of a byte stream (clause 7 and Annex B): the coded pictures that stand in it; none
 -- where it isn't a stream of this profile.
-use Rattle.std.specs.Prelude.{ℕ, ◌+◌, ◌-◌, ◌%◌, Bool, true, false, cond, not, nat_eq, nat_lt, nat_le, ◌&&◌, ◌||◌, List, [], ◌∷◌, length, take, drop, map, filter, replicate, Option, Some, None, option_and_then, option_map}
+use Rattle.std.specs.Prelude.{ℕ, ◌+◌, ◌-◌, ◌%◌, Bool, false, cond, not, nat_eq, nat_lt, nat_le, ◌&&◌, ◌||◌, List, [], ◌∷◌, length, take, drop, map, filter, replicate, Option, Some, None, option_and_then, option_map}
 use Rattle.std.specs.List.{list_all}
 use Rattle.hv_types.specs.declared.bins.SliceKind.{SliceKind}
 use Rattle.hv_stream_model.specs.Bits.{bits_of}
@@ -12,7 +12,7 @@ use Rattle.hv_entropy_model.specs.Oracle.{Oracle, begin, read, bits_left}
 use Rattle.hv_unit_model.specs.Trees.{CodingTreeUnit}
 use Rattle.hv_unit_model.specs.Sites.{Site, sites}
 use Rattle.hv_unit_model.specs.BlockSyntax.{slice_segment_data}
-use Rattle.hv_model.specs.Slices.{idr_header, is_idr}
+use Rattle.hv_slice_model.specs.Slices.{idr_header, is_idr}
 
 -- ---- parameter sets
 

@@ -5,7 +5,7 @@ use Rattle.hv_types.specs.Configuration.{most_levels}
 use Rattle.hv_stream_model.specs.Bits.{bytes_of}
 use Rattle.hv_stream_model.specs.Scripts.{Reads}
 use Rattle.hv_stream_model.specs.Fields.{Field, AllCodable, bits_of_fields, HeaderScript, padding_of, aligned}
-use Rattle.hv_stream_model.specs.Units.{NalUnit, last_of}
+use Rattle.hv_stream_model.specs.Units.{NalUnit}
 use Rattle.hv_stream_model.specs.Headers.{Size, SliceHeader, used_count}
 use Rattle.hv_stream_model.specs.HeaderLaws.{IsAllowedSlice}
 use Rattle.hv_entropy_model.specs.CodeWord.{word}
@@ -13,7 +13,7 @@ use Rattle.hv_unit_model.specs.Trees.{CodingTreeUnit}
 use Rattle.hv_unit_model.specs.Sites.{Site}
 use Rattle.hv_unit_model.specs.Validity.{AreValid}
 use Rattle.hv_unit_model.specs.Bins.{slice_bins}
-use Rattle.hv_model.specs.Slices.{idr_header, payload_of_slice, unit_of_slice}
+use Rattle.hv_slice_model.specs.Slices.{idr_header, unit_of_slice}
 use Rattle.hv_model.specs.Parsing.{parameters, behind_alignment, slice_data, sites_of, picture_of_unit}
 
 -- a parameter set (7.3.2), from its fields and their trailing bits
@@ -54,9 +54,3 @@ SlicesAreRead =
     AreValid header.slice_type (used_count header.references) (sites_of size) units →
     picture_of_unit levels size (unit_of_slice header (sites_of size) units) ≡
     Some (record { header = header; units = units })
-
--- its last byte isn't 0
-abbrev pub SlicesEnd : Type 0
-SlicesEnd =
-    (header : SliceHeader) (sites : List Site) (units : List CodingTreeUnit) →
-    last_of (payload_of_slice header sites units) ≢ 0

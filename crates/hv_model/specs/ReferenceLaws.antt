@@ -4,7 +4,7 @@ use Rattle.hv_types.specs.Configuration.{most_levels}
 use Rattle.hv_group_model.specs.Structure.{coded_of}
 use Rattle.hv_stream_model.specs.Headers.{SliceHeader, used_count}
 use Rattle.hv_stream_model.specs.HeaderLaws.{header_of}
-use Rattle.hv_model.specs.Slices.{list_0}
+use Rattle.hv_slice_model.specs.Slices.{list_0}
 
 -- list 0 has as many pictures as references are active (7.4.7.1, 8.3.4)
 abbrev pub ListZeroHasTheActiveReferences : Type 0

@@ -7,12 +7,10 @@ mod encoding_laws;
 mod payload_laws;
 mod reference_laws;
 mod round_trip;
-mod slice_data_laws;
 
 pub use encoding_laws::{encoding_appends, encoding_ignores_samples, reconstruction_appends};
 pub use payload_laws::{
-    alignment_is_read, parameters_are_read, slice_data_is_read, slices_are_read, slices_end,
+    alignment_is_read, parameters_are_read, slice_data_is_read, slices_are_read,
 };
 pub use reference_laws::{list_zero_has_the_active_references, sets_give_the_references};
 pub use round_trip::{built_is_decided, decoding_gives_reconstruction, each_is_reconstructed};
-pub use slice_data_laws::{coded_units_are_valid, slice_data_contexts_are_valid, slice_data_ends};

@@ -1,6 +1,6 @@
 //! What is read of a payload is what it was made with.
 
-ghost use Rattle.hv_model.specs.PayloadLaws.{ParametersAreRead, AlignmentIsRead, SliceDataIsRead, SlicesAreRead, SlicesEnd};
+ghost use Rattle.hv_model.specs.PayloadLaws.{ParametersAreRead, AlignmentIsRead, SliceDataIsRead, SlicesAreRead};
 
 use hv_stream_model::{other_slices_are_codable, other_slices_are_read};
 
@@ -32,9 +32,3 @@ pub fn slices_are_read()
     other_slices_are_read();
     other_slices_are_codable();
 }
-
-/// The payload of such a unit, with any header and any coding tree units, ends in a byte other than
-/// 0 (7.4.2).
-pub fn slices_end()
-    ensures { SlicesEnd }
-{}

@@ -21,8 +21,7 @@ use Rattle.hv_unit_model.proofs.TransformLemmas.{no_units_valid}
 use Rattle.hv_unit_model.proofs.SquareLemmas.{length-squares}
 use Rattle.hv_unit_model.proofs.NodeLemmas.{IsNode, around, square_in_node, around_own, child_of, squares_above_0, below_4_times}
 use Rattle.hv_unit_model.proofs.BlankLemmas.{IsBlank, AllBlank, LiesInside, none_blank, blank_nowhere, blank_then, blank_alike, ParentsCross, leaf_square, left_is_flat, above_is_flat, dc_candidates}
-use Rattle.hv_model.specs.ModeDecision.{no_offsets, blank_node, best}
-use Rattle.hv_model.specs.Encoding.{coded_units}
+use Rattle.hv_slice_model.specs.BlankUnits.{no_offsets, blank_node, blank_tree, blank_units}
 use Rattle.hv_packet.specs.BlankBins as put
 
 -- ---- what is left of a picture, and where a node begins
@@ -426,7 +425,7 @@ module _ (kind : SliceKind) (references width height index : ℕ) (done : List S
   -- ---- a block
 
   whole_block : AllBlank width height done → length done ≡ 64 * index →
-      IsCoded greatest_size 0 [] (best (site width height index))
+      IsCoded greatest_size 0 [] (blank_tree (site width height index))
       (put.node_bins kind greatest_size (width - 64 * (index % blocks_over width))
       (height - 64 * (index / blocks_over width)))
   unfolding across down column_of row_of ParentsCross Blanks
@@ -442,11 +441,11 @@ module _ (kind : SliceKind) (references width height index : ℕ) (done : List S
         number = rw none (omega (arith, number));
       } in
       subst
-      (λ v. IsCoded greatest_size 0 [] (best (site width height index))
+      (λ v. IsCoded greatest_size 0 [] (blank_tree (site width height index))
       (put.node_bins kind greatest_size v h))
       column
       (subst
-      (λ v. IsCoded greatest_size 0 [] (best (site width height index))
+      (λ v. IsCoded greatest_size 0 [] (blank_tree (site width height index))
       (put.node_bins kind greatest_size (across 0) v))
       row
       (all_nodes 3 0 [] node (λ greater above most. absurd (omega (arith, above, most))) behind))
@@ -480,11 +479,11 @@ last_of_count (suc count) width height index = sym (ne_eqb (suc count) 0 (λ e. 
 blocks_defined : (kind : SliceKind) (references width height count index : ℕ) (done : List Square) →
     AllBlank width height done → length done ≡ 64 * index →
     slice_bins_from kind references done (sites_from count width height index)
-    (coded_units (sites_from count width height index)) ≡
+    (blank_units (sites_from count width height index)) ≡
     put.blocks_bins kind width height count index
 blocks_defined kind references width height zero index done blank number = refl
 blocks_defined kind references width height (suc count) index done blank number =
-    let tree : Tree = best (site width height index) in
+    let tree : Tree = blank_tree (site width height index) in
     let these : List Square = squares_of greatest_size tree in
     let block = whole_block kind references width height index done blank number in
     let many : length these ≡ 64 =
@@ -504,7 +503,7 @@ blocks_defined kind references width height (suc count) index done blank number 
     later
 
 pub picture_bins_defined : (kind : SliceKind) (references width height : ℕ) →
-    slice_bins kind references (sites width height) (coded_units (sites width height)) ≡
+    slice_bins kind references (sites width height) (blank_units (sites width height)) ≡
     put.picture_bins kind width height
 unfolding sites
 picture_bins_defined kind references width height =

@@ -7,8 +7,7 @@ use Rattle.hv_types.specs.declared.bins.SliceKind.TheVariants.{I, P}
 use Rattle.hv_group_model.specs.Structure.{qp_at, coded_of}
 use Rattle.hv_stream_model.specs.Headers.{slice_header_of}
 use Rattle.hv_stream_model.specs.Units.{TRAIL_R, IDR_N_LP}
-use Rattle.hv_model.specs.Slices.{nal_unit_type_of, header_fields}
-use Rattle.hv_model.specs.Encoding.{header_in}
+use Rattle.hv_slice_model.specs.Slices.{nal_unit_type_of, header_fields, header_in}
 use Rattle.hv_lemmas.proofs.ComparisonLemmas.{suc_other_than_0}
 
 pub quantiser_in : (cfg : Settings) (count picture : ℕ) →

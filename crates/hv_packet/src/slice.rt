@@ -8,8 +8,9 @@ ghost use Rattle.hv_stream_model.specs.Units.{last_of};
 ghost use Rattle.hv_types.specs.declared.settings.Settings.{Settings};
 ghost use Rattle.hv_stream_model.specs.Headers.{SliceHeader, slice_header_of};
 ghost use Rattle.hv_unit_model.specs.Sites.{sites};
-ghost use Rattle.hv_model.specs.Encoding.{header_in, picture_sites, slice_data_of};
-ghost use Rattle.hv_model.specs.Encoding.{slice_payload as slice_payload_of};
+ghost use Rattle.hv_slice_model.specs.Slices.{header_in, picture_sites, word_behind};
+ghost use Rattle.hv_slice_model.specs.Slices.{payload_of_slice};
+ghost use Rattle.hv_slice_model.specs.BlankUnits.{blank_units};
 ghost use Rattle.hv_packet.specs.BlankBins.{bin, mode_bins, part_bins, prediction_bins, luma_bins};
 ghost use Rattle.hv_packet.specs.BlankBins.{transform_bins, unit_bins, split_bins, node_bins};
 ghost use Rattle.hv_packet.specs.BlankBins.{merge_bins, block_bins, picture_bins};
@@ -17,8 +18,8 @@ ghost use Rattle.hv_packet.specs.BlankBins.{merge_bins, block_bins, picture_bins
 use hv_bits::BitWriter;
 use hv_cabac::{BinSink, Ctx, CtxTable, Encoder, SliceKind};
 use hv_decision::Group;
-use hv_model::{coded_units_are_valid, slice_data_ends, slices_end};
 use hv_slice::write_slice_header;
+use hv_slice_model::{blank_units_are_valid, slice_data_ends, slices_end};
 use hv_stream_model::{aligned_bits_are_whole, bytes_append};
 use hv_types::NoMemory;
 use hv_unit_model::sites_are_there;
@@ -35,9 +36,10 @@ const CTB_SIZE: u8 = 3;
 /// and its data. Pictures are numbered in output order from 0. `NoMemory` where a growth failed.
 pub fn slice_payload(alloc: Global, group: &Group, picture: u8) -> Result<Vec<u8>, NoMemory>
     requires picture { picture < length group.now.input.pictures }
-    ensures value { IfOk result (λ payload. payload.items ≡ slice_payload_of
+    ensures value { IfOk result (λ payload. payload.items ≡ payload_of_slice
         (header_in group.now.input.config (length group.now.input.pictures) picture)
-        (picture_sites group.now.input.config)) }
+        (picture_sites group.now.input.config)
+        (blank_units (picture_sites group.now.input.config))) }
     // as the payload of a unit has to (7.4.2)
     ensures ends { IfOk result (λ payload. last_of payload.items ≢ 0) }
 {
@@ -84,10 +86,11 @@ fn slice_data(
     requires height_most { height ≤ 2176 }
     ensures { IfOk result (λ bytes. (header : SliceHeader) →
         header.slice_type ≡ slice_type → header.qp ≡ qp →
-        bytes.items ≡ bytes_of (slice_data_of header (sites width height))) }
+        bytes.items ≡ bytes_of (word_behind header (sites width height)
+            (blank_units (sites width height)))) }
 {
     sites_are_there();
-    coded_units_are_valid();
+    blank_units_are_valid();
     slice_data_ends();
     let mut encoder = Encoder::new(alloc, slice_type, qp);
     put_slice_data(&mut encoder, slice_type, width, height);

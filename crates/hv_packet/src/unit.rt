@@ -2,8 +2,10 @@
 
 ghost use Rattle.std.specs.Prelude.{◌≡◌, ◌<◌, ℕ, length, IfOk};
 ghost use Rattle.hv_types.specs.declared.settings.Settings.{Settings};
-ghost use Rattle.hv_model.specs.Slices.{nal_unit_type_of};
-ghost use Rattle.hv_model.specs.Encoding.{header_in, picture_unit as picture_unit_of};
+ghost use Rattle.hv_stream_model.specs.Units.{unit_bytes};
+ghost use Rattle.hv_slice_model.specs.Slices.{header_in, picture_sites, nal_unit_type_of};
+ghost use Rattle.hv_slice_model.specs.Slices.{unit_of_slice};
+ghost use Rattle.hv_slice_model.specs.BlankUnits.{blank_units};
 
 use crate::slice::slice_payload;
 use hv_bits::write_nal;
@@ -23,8 +25,10 @@ const IDR_N_LP: u8 = 20;
 pub fn picture_unit(alloc: Global, group: &Group, picture: u8) -> Result<Vec<u8>, NoMemory>
     requires effort { group.now.input.config.effort ≡ 0 }
     requires picture { picture < length group.now.input.pictures }
-    ensures { IfOk result (λ bytes. bytes.items ≡ picture_unit_of
-        group.now.input.config (length group.now.input.pictures) picture) }
+    ensures { IfOk result (λ bytes. bytes.items ≡ unit_bytes (unit_of_slice
+        (header_in group.now.input.config (length group.now.input.pictures) picture)
+        (picture_sites group.now.input.config)
+        (blank_units (picture_sites group.now.input.config)))) }
 {
     let payload = slice_payload(alloc, group, picture)?;
     write_nal(alloc, nal_unit_type(picture), 0, &payload)

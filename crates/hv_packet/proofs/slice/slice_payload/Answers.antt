@@ -8,8 +8,8 @@ use Rattle.hv_stream_model.specs.Units.{last_of}
 use Rattle.hv_unit_model.specs.Sites.{sites}
 use Rattle.hv_types.specs.declared.settings.Settings.{Settings}
 use Rattle.hv_types.specs.Configuration.{padded_width, padded_height}
-use Rattle.hv_model.specs.Slices.{header_fields}
-use Rattle.hv_model.specs.Encoding.{coded_units, header_in, slice_data_of, slice_payload, picture_sites}
+use Rattle.hv_slice_model.specs.Slices.{header_fields, header_in, picture_sites, word_behind, payload_of_slice}
+use Rattle.hv_slice_model.specs.BlankUnits.{blank_units}
 use Rattle.hv_packet.proofs.HeaderLemmas.{quantiser_in, fields_in}
 use Rattle.hv_packet.proofs.slice.slice_payload.Goals as goal
 
@@ -38,18 +38,18 @@ returns c =
     ap₂ sites
     (c.padded_width.ensures.value ∙ ap padded_width same)
     (c.padded_height.ensures.value ∙ ap padded_height same) in
-    let coded : c.in_ok-data.data.items ≡ bytes_of (slice_data_of head places) =
+    let coded : c.in_ok-data.data.items ≡ bytes_of (word_behind head places (blank_units places)) =
     c.in_ok-data.ensures head (sym (c.kind_of-slice_type.ensures cfg count)) (sym quantiser) ∙
-    ap (λ p. bytes_of (slice_data_of head p)) blocks in
-    let value : c.extend_from_slice.new.self.items ≡ slice_payload head places =
+    ap (λ p. bytes_of (word_behind head p (blank_units p))) blocks in
+    let value : c.extend_from_slice.new.self.items ≡ payload_of_slice head places (blank_units places) =
     c.in_ok-extend_from_slice.ensures.items ∙
     ap₂ (λ (a b : List ℕ). a ++ b)
     (c.in_ok-payload.ensures ∙
     ap (λ f. bytes_of (aligned (bits_of_fields f))) (sym (fields_in cfg count picture)))
     (c.deref.ensures.value ∙ coded) ∙
-    sym (c.bytes_append.ensures (aligned fields) (slice_data_of head places)
+    sym (c.bytes_append.ensures (aligned fields) (word_behind head places (blank_units places))
     (c.aligned_bits_are_whole.ensures fields)) in
     record {
       value = value;
-      ends = λ none. c.slices_end.ensures head places (coded_units places) (ap last_of (sym value) ∙ none);
+      ends = λ none. c.slices_end.ensures head places (blank_units places) (ap last_of (sym value) ∙ none);
     }

@@ -11,7 +11,7 @@ use Rattle.hv_unit_model.specs.EarlierUnits.{Square, Surroundings, after, in_pic
 use Rattle.hv_unit_model.specs.Validity.{IsValidTree, AreValid}
 use Rattle.hv_unit_model.specs.Bins.{sao_bins, bins_of_node, bins, slice_bins_from}
 use Rattle.hv_unit_model.proofs.ContextLemmas.{offsets_ask_there, nodes_ask_there}
-use Rattle.hv_model.specs.SliceDataLaws.{SliceDataContextsAreValid}
+use Rattle.hv_slice_model.specs.SliceLaws.{SliceDataContextsAreValid}
 
 question_askable : (kind : SliceKind) (question : UnitQuestion) → IsAskedIn kind question →
     IsAskable kind (slice_question question)

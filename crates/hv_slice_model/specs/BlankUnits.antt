@@ -1,13 +1,13 @@
--- What the encoder chooses for a coding tree block. So far effort 0, which chooses nothing: every
--- coding unit is an intra unit of mode DC with all levels 0, as large as the picture's edge allows,
--- and no sample is offset.
-use Rattle.std.specs.Prelude.{ℕ, zero, suc, ◌+◌, ◌*◌, cond, [], ◌∷◌, pos}
+-- Coding tree units in which nothing is chosen, as at effort 0: every coding unit is an intra unit
+-- of mode DC with all levels 0, as large as the picture's edge allows, and no sample is offset.
+use Rattle.std.specs.Prelude.{ℕ, zero, suc, ◌+◌, ◌*◌, cond, List, [], ◌∷◌, pos}
 use Rattle.hv_plan.specs.declared.offsets.SaoKind.TheVariants.{Off}
 use Rattle.hv_plan.specs.declared.offsets.SaoComponent.{SaoComponent}
 use Rattle.hv_plan.specs.declared.offsets.SaoParam.{SaoParam}
-use Rattle.hv_unit_model.specs.Trees.{Tree, Leaf, Split, Outside, Intra, greatest_size, no_units}
+use Rattle.hv_unit_model.specs.Trees.{Tree, Leaf, Split, Outside, Intra, CodingTreeUnit, greatest_size, no_units}
 use Rattle.hv_unit_model.specs.Sites.{Site, squares, is_outside, crosses}
 use Rattle.hv_unit_model.specs.MostProbableModes.{dc}
+use Rattle.hv_unit_model.specs.Validity.{is_empty}
 
 -- ---- sample adaptive offsets
 
@@ -33,5 +33,14 @@ blank_node site (suc size) address =
     (blank_node site size (address + 3 * squares size)))
     (Leaf (Intra dc) (no_units (suc size))))
 
-abbrev pub best : Site → Tree
-best site = blank_node site greatest_size 0
+abbrev pub blank_tree : Site → Tree
+blank_tree site = blank_node site greatest_size 0
+
+-- ---- coding tree units
+
+-- those of these blocks, of which the last one ends the slice
+abbrev pub blank_units : List Site → List CodingTreeUnit
+blank_units [] = []
+blank_units (site ∷ sites) =
+    record { sao = no_offsets; tree = blank_tree site; end_of_slice_segment_flag = is_empty sites } ∷
+    blank_units sites

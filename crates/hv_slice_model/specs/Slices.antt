@@ -1,15 +1,18 @@
 -- The slice of a picture, IDR picture or not: its header by one record, the pictures that its
 -- reference picture set names (8.3.2), list 0 (8.3.4), and its unit.
-use Rattle.std.specs.Prelude.{ℕ, ◌+◌, ◌-◌, Bool, cond, nat_eq, List, [], ◌++◌, map, filter}
+use Rattle.std.specs.Prelude.{ℕ, zero, suc, ◌+◌, ◌-◌, Bool, cond, nat_eq, List, [], ◌++◌, map, filter}
 use Rattle.hv_types.specs.declared.bins.SliceKind.TheVariants.{I}
-use Rattle.hv_group_model.specs.Structure.{Kept, ReferenceSet}
+use Rattle.hv_types.specs.declared.settings.Settings.{Settings}
+use Rattle.hv_types.specs.Configuration.{padded_width, padded_height}
+use Rattle.hv_group_model.specs.Structure.{Kept, ReferenceSet, qp_at}
 use Rattle.hv_stream_model.specs.Bits.{bytes_of}
 use Rattle.hv_stream_model.specs.Units.{NalUnit, TRAIL_R, IDR_N_LP}
 use Rattle.hv_stream_model.specs.Fields.{Field, bits_of_fields, aligned}
 use Rattle.hv_stream_model.specs.Headers.{SliceHeader, used_count, idr_slice, slice}
+use Rattle.hv_stream_model.specs.HeaderLaws.{header_of}
 use Rattle.hv_entropy_model.specs.CodeWord.{word}
 use Rattle.hv_unit_model.specs.Trees.{CodingTreeUnit}
-use Rattle.hv_unit_model.specs.Sites.{Site}
+use Rattle.hv_unit_model.specs.Sites.{Site, sites}
 use Rattle.hv_unit_model.specs.Bins.{slice_bins}
 
 -- ---- headers
@@ -90,3 +93,15 @@ unit_of_slice header sites units = record {
   TemporalId = 0;
   payload = payload_of_slice header sites units;
 }
+
+-- ---- a picture of a group
+
+-- the blocks of a padded picture
+abbrev pub picture_sites : Settings → List Site
+picture_sites cfg = sites (padded_width cfg) (padded_height cfg)
+
+-- the slice header of a picture of a group of so many: the first one is an IDR picture of depth 0,
+-- the others are P pictures
+abbrev pub header_in : Settings → ℕ → ℕ → SliceHeader
+header_in cfg count zero = idr_header (qp_at cfg.qp 0)
+header_in cfg count (suc k) = header_of count cfg.levels cfg.qp (suc k)

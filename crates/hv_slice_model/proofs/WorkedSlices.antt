@@ -14,9 +14,8 @@ use Rattle.hv_unit_model.specs.Sites.{Site, site, sites, has_left, has_above, co
 use Rattle.hv_unit_model.specs.EarlierUnits.{look_picture}
 use Rattle.hv_unit_model.specs.MostProbableModes.{candModeList}
 use Rattle.hv_unit_model.specs.Bins.{sao_bins, luma_mode_bins, transform_unit_bins, quarters_bins, transform_tree_bins, predicted_bins, bins_of_node, slice_bins}
-use Rattle.hv_model.specs.ModeDecision.{blank_node, best}
-use Rattle.hv_model.specs.Slices.{idr_header}
-use Rattle.hv_model.specs.Encoding.{coded_units, slice_payload}
+use Rattle.hv_slice_model.specs.BlankUnits.{blank_node, blank_tree, blank_units}
+use Rattle.hv_slice_model.specs.Slices.{idr_header, payload_of_slice}
 
 -- a bin with a context
 abbrev pub bin : CtxTable → ℕ → Bool → Bin
@@ -51,12 +50,12 @@ grey_bytes = refl
 
 -- ---- what a slice of 64x64 and one of 8x8 are coded as
 
-bins_of_64x64 : slice_bins I 0 (sites 64 64) (coded_units (sites 64 64)) ≡ grey_bins
+bins_of_64x64 : slice_bins I 0 (sites 64 64) (blank_units (sites 64 64)) ≡ grey_bins
 unfolding sites blank_node sao_bins bins_of_node predicted_bins luma_mode_bins candModeList transform_tree_bins quarters_bins transform_unit_bins truncated_unary_bins no_units no_levels look_picture column_of row_of address_of crosses is_outside
 bins_of_64x64 = refl
 
 -- The smallest unit has a part_mode and no split_cu_flag, and one block of luma.
-bins_of_8x8 : slice_bins I 0 (sites 8 8) (coded_units (sites 8 8)) ≡
+bins_of_8x8 : slice_bins I 0 (sites 8 8) (blank_units (sites 8 8)) ≡
     bin SaoType 0 false ∷ bin SaoType 0 false ∷
     bin PartMode 0 true ∷ bin PrevIntra 0 true ∷ bypass_bin true ∷ bypass_bin false ∷
     bin ChromaMode 0 false ∷ bin CbfChroma 0 false ∷ bin CbfChroma 0 false ∷
@@ -70,7 +69,7 @@ abbrev flat : ℕ → Tree
 flat size = Leaf (Intra 1) (no_units size)
 
 -- two units of 8x8 side by side
-tree_of_16x8 : best (site 16 8 0) ≡
+tree_of_16x8 : blank_tree (site 16 8 0) ≡
     SplitTree
     (SplitTree (SplitTree (flat 0) (flat 0) Outside Outside) Outside Outside Outside)
     Outside Outside Outside
@@ -78,7 +77,7 @@ unfolding blank_node is_outside crosses column_of row_of
 tree_of_16x8 = refl
 
 -- a unit of 32x32 above two of 16x16, a row of 8x8 below them, and nothing of the third quarter
-tree_of_32x56 : best (site 32 56 0) ≡
+tree_of_32x56 : blank_tree (site 32 56 0) ≡
     SplitTree
     (flat 2)
     Outside
@@ -110,47 +109,50 @@ blocks_above = refl
 abbrev corner : List Site
 corner = site 136 72 5 ∷ []
 
-bins_of_a_corner : slice_bins I 0 corner (coded_units corner) ≡
+bins_of_a_corner : slice_bins I 0 corner (blank_units corner) ≡
     bin SaoMerge 0 false ∷ bin SaoMerge 0 false ∷
-    slice_bins I 0 (sites 8 8) (coded_units (sites 8 8))
+    slice_bins I 0 (sites 8 8) (blank_units (sites 8 8))
 unfolding sites blank_node sao_bins bins_of_node predicted_bins luma_mode_bins candModeList transform_tree_bins quarters_bins transform_unit_bins truncated_unary_bins no_units no_levels look_picture column_of row_of address_of crosses is_outside
 bins_of_a_corner = refl
 
 -- ---- code words
 
-slice_of_64x64 : slice_payload (idr_header 0) (sites 64 64) ≡ 175 ∷ 6 ∷ 176 ∷ 152 ∷ 127 ∷ 255 ∷ 255 ∷ 248 ∷ []
+abbrev blank_slice : List Site → List ℕ
+blank_slice sites = payload_of_slice (idr_header 0) sites (blank_units sites)
+
+slice_of_64x64 : blank_slice (sites 64 64) ≡ 175 ∷ 6 ∷ 176 ∷ 152 ∷ 127 ∷ 255 ∷ 255 ∷ 248 ∷ []
 unfolding first_bytes log2_of lps_width next_variable first_variables shift_of sites blank_node sao_bins bins_of_node predicted_bins luma_mode_bins candModeList transform_tree_bins quarters_bins transform_unit_bins truncated_unary_bins no_units no_levels look_picture column_of row_of address_of crosses is_outside
 slice_of_64x64 = refl
 
-slice_of_8x8 : slice_payload (idr_header 0) (sites 8 8) ≡ 175 ∷ 6 ∷ 176 ∷ 152 ∷ 239 ∷ 255 ∷ 240 ∷ []
+slice_of_8x8 : blank_slice (sites 8 8) ≡ 175 ∷ 6 ∷ 176 ∷ 152 ∷ 239 ∷ 255 ∷ 240 ∷ []
 unfolding first_bytes log2_of lps_width next_variable first_variables shift_of sites blank_node sao_bins bins_of_node predicted_bins luma_mode_bins candModeList transform_tree_bins quarters_bins transform_unit_bins truncated_unary_bins no_units no_levels look_picture column_of row_of address_of crosses is_outside
 slice_of_8x8 = refl
 
-slice_of_16x8 : slice_payload (idr_header 0) (sites 16 8) ≡
+slice_of_16x8 : blank_slice (sites 16 8) ≡
     175 ∷ 6 ∷ 176 ∷ 152 ∷ 239 ∷ 255 ∷ 178 ∷ 255 ∷ 240 ∷ []
 unfolding first_bytes log2_of lps_width next_variable first_variables shift_of sites blank_node sao_bins bins_of_node predicted_bins luma_mode_bins candModeList transform_tree_bins quarters_bins transform_unit_bins truncated_unary_bins no_units no_levels look_picture column_of row_of address_of crosses is_outside
 slice_of_16x8 = refl
 
-slice_of_72x56 : slice_payload (idr_header 0) (sites 72 56) ≡
+slice_of_72x56 : blank_slice (sites 72 56) ≡
     175 ∷ 6 ∷ 176 ∷ 152 ∷ 127 ∷ 255 ∷ 101 ∷ 254 ∷ 211 ∷ 249 ∷ 191 ∷ 188 ∷ 120 ∷ 189 ∷ 125 ∷ 33 ∷
     225 ∷ 130 ∷ 223 ∷ 222 ∷ 112 ∷ 120 ∷ 116 ∷ 80 ∷ 12 ∷ 103 ∷ 71 ∷ []
 unfolding first_bytes log2_of lps_width next_variable first_variables shift_of sites blank_node sao_bins bins_of_node predicted_bins luma_mode_bins candModeList transform_tree_bins quarters_bins transform_unit_bins truncated_unary_bins no_units no_levels look_picture column_of row_of address_of crosses is_outside
 slice_of_72x56 = refl
 
-slice_of_136x72 : slice_payload (idr_header 0) (sites 136 72) ≡
+slice_of_136x72 : blank_slice (sites 136 72) ≡
     175 ∷ 6 ∷ 176 ∷ 152 ∷ 127 ∷ 255 ∷ 250 ∷ 188 ∷ 191 ∷ 236 ∷ 69 ∷ 254 ∷ 223 ∷ 242 ∷ 30 ∷ 173 ∷
     175 ∷ 164 ∷ 67 ∷ 74 ∷ 243 ∷ 143 ∷ 239 ∷ 118 ∷ 252 ∷ 40 ∷ 92 ∷ 153 ∷ 23 ∷ 86 ∷ 167 ∷ 191 ∷ 76 ∷
     []
 unfolding first_bytes log2_of lps_width next_variable first_variables shift_of sites blank_node sao_bins bins_of_node predicted_bins luma_mode_bins candModeList transform_tree_bins quarters_bins transform_unit_bins truncated_unary_bins no_units no_levels look_picture column_of row_of address_of crosses is_outside
 slice_of_136x72 = refl
 
-slice_of_256x192 : slice_payload (idr_header 0) (sites 256 192) ≡
+slice_of_256x192 : blank_slice (sites 256 192) ≡
     175 ∷ 6 ∷ 176 ∷ 152 ∷ 127 ∷ 255 ∷ 250 ∷ 188 ∷ 191 ∷ 236 ∷ 9 ∷ 247 ∷ 159 ∷ 16 ∷ 26 ∷ 93 ∷ 227 ∷
     115 ∷ 202 ∷ 155 ∷ 22 ∷ 135 ∷ 133 ∷ 138 ∷ []
 unfolding first_bytes log2_of lps_width next_variable first_variables shift_of sites blank_node sao_bins bins_of_node predicted_bins luma_mode_bins candModeList transform_tree_bins quarters_bins transform_unit_bins truncated_unary_bins no_units no_levels look_picture column_of row_of address_of crosses is_outside
 slice_of_256x192 = refl
 
-slice_of_64x136 : slice_payload (idr_header 0) (sites 64 136) ≡
+slice_of_64x136 : blank_slice (sites 64 136) ≡
     175 ∷ 6 ∷ 176 ∷ 152 ∷ 127 ∷ 255 ∷ 250 ∷ 188 ∷ 191 ∷ 236 ∷ 69 ∷ 254 ∷ 223 ∷ 242 ∷ 30 ∷ 173 ∷
     175 ∷ 164 ∷ 67 ∷ 75 ∷ 179 ∷ []
 unfolding first_bytes log2_of lps_width next_variable first_variables shift_of sites blank_node sao_bins bins_of_node predicted_bins luma_mode_bins candModeList transform_tree_bins quarters_bins transform_unit_bins truncated_unary_bins no_units no_levels look_picture column_of row_of address_of crosses is_outside

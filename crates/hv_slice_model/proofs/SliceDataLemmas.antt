@@ -11,7 +11,7 @@ use Rattle.hv_unit_model.specs.Sites.{Site}
 use Rattle.hv_unit_model.specs.EarlierUnits.{Square, Surroundings, after, in_picture}
 use Rattle.hv_unit_model.specs.Validity.{AreValid, is_empty}
 use Rattle.hv_unit_model.specs.Bins.{sao_bins, bins_of_node, bins, slice_bins_from}
-use Rattle.hv_model.specs.SliceDataLaws.{SliceDataEnds}
+use Rattle.hv_slice_model.specs.SliceLaws.{SliceDataEnds}
 
 -- no bin of a coding tree unit ends a slice
 goes_on : (question : UnitQuestion) (value : Bool) → is_last (slice_question question) value ≡ false

@@ -2,13 +2,9 @@
 use Rattle.std.proofs.Common.{◌≡◌, ℕ, ◌*◌, ◌<◌, Bool, true, false, cond, nat_lt, refl, arith, sym, ap, ◌∙◌, ℤ}
 use Rattle.std.specs.Int.RustNames.{unsigned_abs}
 use Rattle.std.proofs.lemmas.Bool.Decides.{nat_tests}
-use Rattle.hv_deblock_model.specs.declared.line.Side.{Side}
 use Rattle.hv_deblock_model.specs.declared.line.Line.{Line}
 use Rattle.hv_deblock_model.specs.EdgeFilters.{clip_to, luma_step, stepped_line, normal_line}
 use Rattle.hv_lemmas.proofs.ComparisonLemmas.{lt_below}
-
-abbrev pub line_of : Side → Side → Line
-line_of p q = record { p = p; q = q }
 
 pub first_of_cond : {A : Type 0} (b : Bool) (x y : A) → b ≡ true → cond b x y ≡ x
 first_of_cond b x y e = rw e refl

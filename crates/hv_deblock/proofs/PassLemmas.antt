@@ -14,7 +14,8 @@ use Rattle.hv_deblock.specs.declared.direction.Direction.{Direction}
 use Rattle.hv_deblock.specs.Filled.{columns_of, rows_of, samples_of, IsFilled, IsTurnedInto}
 use Rattle.hv_deblock.specs.Passes.{edge_line, segment_sample, filter_of, strength_of_four, scale}
 use Rattle.hv_deblock.proofs.LineLemmas.{first_of_cond, second_of_cond}
-use Rattle.hv_deblock.proofs.SegmentLemmas.{line_same, line_below}
+use Rattle.hv_deblock_model.proofs.LineLemmas.{line_same}
+use Rattle.hv_deblock.proofs.SegmentLemmas.{line_below}
 use Rattle.hv_deblock.proofs.FilledLemmas.{columns_same, rows_same, fill_below, fill_right, filled_same}
 
 -- ---- a segment is a part of the pass

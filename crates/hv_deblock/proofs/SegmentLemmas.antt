@@ -11,24 +11,9 @@ use Rattle.hv_deblock.specs.declared.component.Component.TheVariants.{Luma, Chro
 use Rattle.hv_deblock.specs.declared.direction.Direction.{Direction}
 use Rattle.hv_deblock.specs.Filled.{columns_of, rows_of, samples_of, IsFilled}
 use Rattle.hv_deblock.specs.Passes.{edge_line, edge_changes, segment_sample}
-use Rattle.hv_deblock.proofs.LineLemmas.{line_of, second_of_cond}
+use Rattle.hv_deblock_model.proofs.LineLemmas.{line_same}
+use Rattle.hv_deblock.proofs.LineLemmas.{second_of_cond}
 use Rattle.hv_deblock.proofs.FilledLemmas.{fill_below, filled_same}
-
-side_same : (a b c d e f g h : ℕ) → a ≡ e → b ≡ f → c ≡ g → d ≡ h →
-    (let made : ℕ → ℕ → ℕ → ℕ → Side = λ a b c d. record { s0 = a; s1 = b; s2 = c; s3 = d } in made a b c d ≡ made e f g h)
-side_same a b c d e f g h e₁ e₂ e₃ e₄ = cc
-
--- a line is known by its eight samples
-pub line_same : (s t : Samples) (k y : ℕ) → 0 < k → ((x : ℕ) → 8 * k - 4 ≤ x → x < 8 * k + 4 → s x y ≡ t x y) →
-    line_at s k y ≡ line_at t k y
-line_same s t k y some same =
-    ap₂ line_of
-    (side_same _ _ _ _ _ _ _ _
-    (same (8 * k - 1) (omega arith) (omega arith)) (same (8 * k - 2) (omega arith) (omega arith))
-    (same (8 * k - 3) (omega arith) (omega arith)) (same (8 * k - 4) (omega arith) (omega arith)))
-    (side_same _ _ _ _ _ _ _ _
-    (same (8 * k) (omega arith) (omega arith)) (same (8 * k + 1) (omega arith) (omega arith))
-    (same (8 * k + 2) (omega arith) (omega arith)) (same (8 * k + 3) (omega arith) (omega arith)))
 
 -- a row below those that are filled is as before
 pub line_below : (d : Direction) (k top bottom y : ℕ) (f : Samples) (old mid : Plane) → 0 < k → 8 * k + 3 < columns_of d old →

@@ -1,3 +1,5 @@
+mod FlatLemmas
+pub mod LineLemmas
 mod WorkedDeblocking
 mod WorkedEdges
 mod WorkedStrengths

@@ -2,3 +2,5 @@ pub mod CodedSquares
 pub mod Deblocking
 pub mod EdgeFilters
 pub mod EdgeStrength
+pub mod FlatPictures
+pub mod InLoopFilters

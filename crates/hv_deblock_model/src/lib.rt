@@ -3,7 +3,9 @@
 #![tactic(auto)]
 
 mod coding;
+mod flat_pictures;
 mod line;
 
 pub use coding::SquareCoding;
+pub use flat_pictures::flat_pictures_are_kept;
 pub use line::{Line, Side};

@@ -1,3 +1,5 @@
+mod JoinedLemmas
+pub mod OffLemmas
 mod WorkedBlocks
 mod WorkedOffsets
 mod WorkedChoices

@@ -1,7 +1,7 @@
 -- The coding tree blocks of a picture, in raster order (6.5.1), and where each lies in a plane.
-use Rattle.std.specs.Prelude.{ℕ, ◌+◌, ◌-◌, ◌*◌, ◌/◌, ◌%◌, min, List, flat_map}
+use Rattle.std.specs.Prelude.{ℕ, ◌+◌, ◌-◌, ◌*◌, ◌/◌, ◌%◌, min, List, [], flat_map, slice_index_or}
 use Rattle.hv_lemmas.specs.Lists.{tabulate}
-use Rattle.hv_types.specs.Samples.{Plane}
+use Rattle.hv_types.specs.Samples.{Plane, plane_of}
 
 -- the side of a coding tree block in luma (CtbSizeY), and in Cb and Cr
 abbrev pub luma_side : ℕ
@@ -48,3 +48,16 @@ row_locations area y columns =
 abbrev pub locations : Area → List Location
 locations area =
     flat_map (λ row. row) (tabulate area.rows (λ y. row_locations area y area.columns))
+
+-- ---- a plane that is put together from its blocks
+
+-- The sample in column x of row y, from those of the blocks, each by rows of a whole block: where
+-- a block is cut by the plane's edge, the samples behind the edge are left.
+abbrev pub joined_sample : ℕ → ℕ → List (List ℕ) → ℕ → ℕ → ℕ
+joined_sample side across blocks x y =
+    slice_index_or (slice_index_or blocks (block_number side across x y) [])
+    (y % side * side + x % side) 0
+
+abbrev pub joined_plane : ℕ → ℕ → ℕ → ℕ → List (List ℕ) → Plane
+joined_plane side across width height blocks =
+    plane_of width height (joined_sample side across blocks)

@@ -1,6 +1,6 @@
 -- The encoder's own choice of sample adaptive offsets for a coding tree block: the first of least
 -- cost, for luma, and for Cb and Cr together. H.265 leaves it free.
-use Rattle.std.specs.Prelude.{ℕ, ◌+◌, ◌*◌, ◌/◌, cond, nat_eq, List, [], ◌∷◌, ◌++◌, length, map, filter, sum, ℤ, pos, neg_ℤ, ◌+ℤ◌, ◌-ℤ◌}
+use Rattle.std.specs.Prelude.{ℕ, zero, suc, ◌+◌, ◌*◌, ◌/◌, cond, nat_eq, List, [], ◌∷◌, ◌++◌, length, map, filter, sum, ℤ, pos, neg_ℤ, ◌+ℤ◌, ◌-ℤ◌}
 use Rattle.std.specs.Int.{abs_diff, is_negative}
 use Rattle.std.specs.Int.RustNames.{unsigned_abs}
 use Rattle.hv_lemmas.specs.Clipping.{clip3}
@@ -15,7 +15,7 @@ use Rattle.hv_plan.specs.declared.place.Place.{Place}
 use Rattle.hv_filter_model.specs.Blocks.{luma_side, chroma_side, blocks_over, Area, block_area, Location, locations}
 use Rattle.hv_filter_model.specs.Costs.{cost, first_least}
 use Rattle.hv_filter_model.specs.OffsetBins.{own_bins, luma_bins, chroma_bins}
-use Rattle.hv_filter_model.specs.SampleAdaptiveOffset.{least_offset, most_offset, category, sao_sample}
+use Rattle.hv_filter_model.specs.SampleAdaptiveOffset.{least_offset, most_offset, category, sao_sample, off_param}
 
 -- a block of one colour component: the plane as deblocked, the plane of the input, and which part
 -- of both the block is
@@ -127,3 +127,25 @@ chosen_offsets deblocked input place qp =
       cb = chroma.cb;
       cr = chroma.cr;
     }
+
+-- ---- the choices for a picture
+
+-- how many coding tree blocks it has
+abbrev pub block_count : Picture → ℕ
+block_count picture =
+    blocks_over luma_side picture.luma.width * blocks_over luma_side picture.luma.height
+
+abbrev pub place_in : Picture → ℕ → Place
+place_in picture number =
+    record { width = picture.luma.width; height = picture.luma.height; index = number }
+
+-- at effort 0 nothing is chosen
+abbrev pub block_offsets : ℕ → ℕ → Picture → Picture → ℕ → SaoParam
+block_offsets zero qp deblocked input number = off_param
+block_offsets (suc effort) qp deblocked input number =
+    chosen_offsets deblocked input (place_in deblocked number) qp
+
+-- one for each block, in raster order
+abbrev pub picture_offsets : ℕ → ℕ → Picture → Picture → List SaoParam
+picture_offsets effort qp deblocked input =
+    tabulate (block_count deblocked) (block_offsets effort qp deblocked input)

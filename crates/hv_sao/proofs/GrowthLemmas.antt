@@ -8,7 +8,7 @@ use Rattle.std.proofs.lemmas.Bool.{cases_lt, cases_Bool}
 use Rattle.std.proofs.lemmas.Bool.Decides.{nat_tests}
 use Rattle.hv_types.specs.Samples.{Plane, HasByteSamples, sample_at}
 use Rattle.hv_types.proofs.SampleLemmas.{byte_at}
-use Rattle.hv_sao.proofs.SampleLemmas.{clip1_same}
+use Rattle.hv_filter_model.proofs.OffLemmas.{clip1_same}
 use Rattle.hv_plan.specs.declared.offsets.SaoKind.{SaoKind}
 use Rattle.hv_plan.specs.declared.offsets.SaoKind.TheVariants.{Off, Band, Edge}
 use Rattle.hv_plan.specs.declared.offsets.SaoComponent.{SaoComponent}

@@ -1,18 +1,14 @@
 -- Samples with their offsets, from their categories (8.7.3.2).
 use Rattle.std.proofs.Common.{◌≡◌, ℕ, ◌+◌, ◌-◌, ◌<◌, ◌≤◌, List, length, get_or, ⊎_elim, Some, pos, ◌+ℤ◌, sym, ◌∙◌, ap, arith}
-use Rattle.std.proofs.lemmas.Int.{ints, clamps}
 use Rattle.std.proofs.lemmas.Bool.{cases_lt}
 use Rattle.hv_lemmas.specs.Clipping.{clip1}
 use Rattle.hv_plan.specs.declared.offsets.SaoKind.{SaoKind}
 use Rattle.hv_plan.specs.declared.offsets.SaoKind.TheVariants.{Edge}
 use Rattle.hv_plan.specs.declared.offsets.SaoComponent.{SaoComponent}
 use Rattle.hv_types.specs.Samples.{Plane, sample_at}
+use Rattle.hv_filter_model.proofs.OffLemmas.{clip1_same}
 use Rattle.hv_filter_model.specs.SampleAdaptiveOffset.{category, edge_of, edgeIdx, SaoOffsetVal, sao_sample}
 use Rattle.hv_sao.specs.Rows.{IsRow, HasPart, IsEdgeRow, edge_sample}
-
--- a byte without an offset
-pub clip1_same : (s : ℕ) → s < 256 → clip1 (pos s +ℤ pos 0) ≡ s
-clip1_same s byte = omega (arith, ints, clamps)
 
 pub by_category : (component : SaoComponent) (class : ℕ) (plane : Plane) (x y k : ℕ) → component.kind ≡ Edge class →
     edgeIdx class plane x y ≡ k →

@@ -1,7 +1,7 @@
 use Rattle.std.proofs.Common.{ap, ap₂, ◌∙◌, arith, neg_ℤ}
 use Rattle.hv_lemmas.proofs.SignedLemmas.{passed_small}
 use Rattle.hv_deblock_model.specs.EdgeFilters.{normal_side}
-use Rattle.hv_deblock.proofs.LineLemmas.{line_of}
+use Rattle.hv_deblock_model.proofs.LineLemmas.{line_of}
 use Rattle.hv_deblock.proofs.luma.stepped_line.Goals as goal
 
 pub returns : goal.returns

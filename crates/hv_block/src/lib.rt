@@ -1,13 +1,15 @@
 //! Coding tree blocks of 64x64 luma samples in memory: what is decided for one, its samples, and
-//! what the blocks around it see of it.
+//! what the blocks around it see of it; and frames, which have a filtered picture.
 #![tactic(auto)]
 
 mod block;
 mod edges;
+mod frame;
 mod plan;
 mod samples;
 
 pub use block::{Block, Blocks};
 pub use edges::{Edges, Neighbours};
+pub use frame::{no_offsets, Frame};
 pub use plan::CtbPlan;
 pub use samples::Samples;

@@ -1,0 +1,97 @@
+-- The five squares around a node move as in the picture (8.5.3.2.7): what is seen of the blocks
+-- around is what is seen in the picture, also of units that know their vectors.
+use Rattle.std.proofs.Common.{◌≡◌, ℕ, ◌+◌, ◌-◌, ◌^◌, ◌<◌, ◌≤◌, Bool, List, map, refl, sym, ap, ◌∙◌, arith}
+use Rattle.std.specs.Prelude.{nat_le, slice_get, Option, Some, None, option_map}
+use Rattle.std.proofs.lemmas.Bool.{leb-true}
+use Rattle.std.proofs.lemmas.List.{length-map}
+use Rattle.std.proofs.lemmas.Option.{slice_get-map}
+use Rattle.hv_lemmas.proofs.ComputedLemmas.{holds_below}
+use Rattle.hv_plan.specs.declared.prediction.Unit.{Unit}
+use Rattle.hv_unit_model.specs.Sites.{Site, column_of, row_of}
+use Rattle.hv_unit_model.specs.EarlierUnits.{look_picture}
+use Rattle.hv_unit_model.specs.Plans.{Plan, UnitEdges, UnitsAround, look_around}
+use Rattle.hv_unit_model.specs.PlanLaws.{squares_before, unit_of_plan, AreSeen, LieAround}
+use Rattle.hv_unit_model.proofs.AroundLemmas.{blocks_around}
+use Rattle.hv_unit_model.proofs.GeometryLemmas.{place_of_address}
+use Rattle.hv_vector_model.specs.Vectors.{unit_with_vector, plan_with_vectors, edges_with_vectors, around_with_vectors}
+use Rattle.hv_vector_model.specs.VectorLaws.{NeighbourhoodsInBlockAreThoseInPicture}
+
+-- ---- edges of plans that know their vectors
+
+unit_with : (plan : Option Plan) (a : ℕ) →
+    option_map unit_with_vector (unit_of_plan plan a) ≡
+    unit_of_plan (option_map plan_with_vectors plan) a
+unit_with None a = refl
+unit_with (Some plan) a = sym (slice_get-map unit_with_vector plan.units a)
+
+-- a unit at an edge, which is that of a plan
+at_edge : (units : List Unit) (plans : List Plan) (k i a : ℕ) →
+    slice_get units i ≡ unit_of_plan (slice_get plans k) a →
+    slice_get (map unit_with_vector units) i ≡
+    unit_of_plan (slice_get (map plan_with_vectors plans) k) a
+at_edge units plans k i a e =
+    slice_get-map unit_with_vector units i ∙ ap (option_map unit_with_vector) e ∙
+    unit_with (slice_get plans k) a ∙
+    ap (λ o. unit_of_plan o a) (sym (slice_get-map plan_with_vectors plans k))
+
+seen_with : (has_block : Bool) (plans : List Plan) (k : ℕ) (edges : Option UnitEdges) →
+    AreSeen has_block plans k edges →
+    AreSeen has_block (map plan_with_vectors plans) k (edges_with_vectors edges)
+seen_with has_block plans k None seen = seen
+seen_with has_block plans k (Some edges) seen = (
+  seen.0,
+  record {
+    right_count = length-map edges.right unit_with_vector ∙ seen.1.right_count;
+    right = λ row h. at_edge edges.right plans k row _ (seen.1.right row h);
+    bottom_count = length-map edges.bottom unit_with_vector ∙ seen.1.bottom_count;
+    bottom = λ column h. at_edge edges.bottom plans k column _ (seen.1.bottom column h);
+  },
+)
+
+around_with : (here : Site) (plans : List Plan) (around : UnitsAround) →
+    LieAround here plans around →
+    LieAround here (map plan_with_vectors plans) (around_with_vectors around)
+around_with here plans around lies = record {
+  left = seen_with _ plans _ around.left lies.left;
+  above_left = seen_with _ plans _ around.above_left lies.above_left;
+  above = seen_with _ plans _ around.above lies.above;
+  above_right = seen_with _ plans _ around.above_right lies.above_right;
+}
+
+-- ---- the five squares
+
+small_sides : (size : ℕ) → size ≤ 3 → 2 ^ size ≤ 8
+small_sides size h =
+    let t = holds_below 4 (λ n. nat_le (2 ^ n) 8) refl size (omega (arith, h)) in leb-true _ _ t
+
+large_sides : (size : ℕ) → size ≤ 3 → 1 ≤ 2 ^ size
+large_sides size h =
+    let t = holds_below 4 (λ n. nat_le 1 (2 ^ n)) refl size (omega (arith, h)) in leb-true _ _ t
+
+pub neighbourhoods_in_picture : NeighbourhoodsInBlockAreThoseInPicture
+neighbourhoods_in_picture here plans around size address earlier before lies few inside short =
+    let moves : List Plan = map plan_with_vectors plans in
+    let near : UnitsAround = around_with_vectors around in
+    let place = place_of_address address inside in
+    let most = small_sides size few in
+    let least = large_sides size few in
+    let x : ℕ = 8 + column_of address in
+    let y : ℕ = 8 + row_of address in
+    let same : (column row : ℕ) → 7 ≤ column → column < 24 → 7 ≤ row → row < 24 →
+    look_around here near earlier column row ≡
+    look_picture here (squares_before here moves) earlier column row =
+    λ column row.
+    blocks_around here moves near earlier column row before (around_with here plans around lies)
+    short in
+    rw (
+      same (x - 1) (y + 2 ^ size) (omega arith) (omega (arith, place.1)) (omega arith)
+          (omega (arith, place.2, most)),
+      same (x - 1) (y + 2 ^ size - 1) (omega arith) (omega (arith, place.1))
+          (omega (arith, least)) (omega (arith, place.2, most)),
+      same (x + 2 ^ size) (y - 1) (omega arith) (omega (arith, place.1, most)) (omega arith)
+          (omega (arith, place.2)),
+      same (x + 2 ^ size - 1) (y - 1) (omega (arith, least)) (omega (arith, place.1, most))
+          (omega arith) (omega (arith, place.2)),
+      same (x - 1) (y - 1) (omega arith) (omega (arith, place.1)) (omega arith)
+          (omega (arith, place.2)),
+    ) refl

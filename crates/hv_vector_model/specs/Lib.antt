@@ -1,0 +1,3 @@
+pub mod VectorPrediction
+pub mod Vectors
+pub mod VectorLaws

@@ -1,2 +1,3 @@
 pub mod Reconstruction
 pub mod ReconstructionLaws
+pub mod SeenSamples

@@ -1,0 +1,88 @@
+-- Leaves of a coding tree block of the code, and what is decoded behind them, as the definitions
+-- have them.
+use Rattle.std.specs.Prelude.{◌≡◌, ℕ, ◌+◌, ◌*◌, ◌<◌, ◌≤◌, true, false, List, slice_get, Option, Some, None}
+use Rattle.hv_block.specs.declared.edges.Edges.{Edges}
+use Rattle.hv_block.specs.declared.edges.Neighbours.{Neighbours}
+use Rattle.hv_block.specs.Plans.{CtbPlan}
+use Rattle.hv_block.specs.Samples.{Samples}
+use Rattle.hv_plan.specs.declared.prediction.Pred.TheVariants.{Intra}
+use Rattle.hv_plan.specs.declared.prediction.Unit.{Unit}
+use Rattle.hv_unit_model.specs.Trees.{Tree}
+use Rattle.hv_unit_model.specs.Sites.{Site, x0, y0, squares}
+use Rattle.hv_unit_model.specs.Plans.{Plan, leaf_at}
+use Rattle.hv_recon_model.specs.Reconstruction.{Decoded, decoded_tree}
+use Rattle.hv_recon_model.specs.SeenSamples.{SampleEdges, SamplesAround, IsSeen, luma_spot, chroma_spot, comes_before}
+
+-- ---- what lies around
+
+abbrev pub edges_in : (Edges → List ℕ) → (Edges → List ℕ) → Option Edges → Option SampleEdges
+edges_in right bottom None = None
+edges_in right bottom (Some e) = Some (record { right = right e; bottom = bottom e })
+
+abbrev pub around_in : (Edges → List ℕ) → (Edges → List ℕ) → Neighbours → SamplesAround
+around_in right bottom near = record {
+  left = edges_in right bottom near.left;
+  above_left = edges_in right bottom near.above_left;
+  above = edges_in right bottom near.above;
+  above_right = edges_in right bottom near.above_right;
+}
+
+abbrev pub luma_around : Neighbours → SamplesAround
+luma_around near = around_in (λ e. e.right_luma) (λ e. e.bottom_luma) near
+
+abbrev pub cb_around : Neighbours → SamplesAround
+cb_around near = around_in (λ e. e.right_cb) (λ e. e.bottom_cb) near
+
+abbrev pub cr_around : Neighbours → SamplesAround
+cr_around near = around_in (λ e. e.right_cr) (λ e. e.bottom_cr) near
+
+-- What is decoded of the picture is seen so from a block of it: by these edges of the blocks
+-- around, and by these samples of the block itself, so far as they come before this address.
+pub record AreSeen
+    (place : Site) (near : Neighbours) (own : Samples) (address : ℕ) (d : Decoded) : Type 0 where
+  pub luma : IsSeen (luma_spot place) (luma_around near) own.luma address d.luma
+  pub cb : IsSeen (chroma_spot place) (cb_around near) own.cb address d.cb
+  pub cr : IsSeen (chroma_spot place) (cr_around near) own.cr address d.cr
+
+-- ---- a leaf: a node of a coding tree block that is one coding unit
+
+abbrev pub lists_of_plan : CtbPlan → Plan
+lists_of_plan p = record { units = p.units; luma = p.luma; cb = p.cb; cr = p.cr }
+
+-- its prediction and its levels
+abbrev pub leaf_of_plan : CtbPlan → ℕ → ℕ → Tree
+leaf_of_plan plan size address =
+    leaf_at (lists_of_plan plan) size address (slice_get plan.units address)
+
+-- the unit that is predicted inside the picture by one of the 35 modes
+abbrev pub IsIntra : Option Unit → Type 0
+IsIntra unit =
+    (depth : ℕ) × (mode : ℕ) ×
+    (unit ≡ Some (record { depth = depth; pred = Intra mode })) × (mode ≤ 34)
+
+-- Whatever is decoded of the picture and is seen so before a leaf: behind the leaf, it is seen so
+-- again with the new samples.
+abbrev pub DecodesLeaf :
+    CtbPlan → ℕ → ℕ → Site → ℕ → Neighbours → Samples → Samples → Type 0
+DecodesLeaf plan size address place qp near old new =
+    (d : Decoded) → AreSeen place near old address d →
+    (e : Decoded) ×
+    (decoded_tree qp size (x0 place address) (y0 place address) (leaf_of_plan plan size address) d ≡
+    Some e) ×
+    AreSeen place near new (address + squares size) e
+
+-- ---- samples that are kept
+
+-- in a component of this side, all but those in the squares of a node
+pub record KeepsOthers (side size address : ℕ) (old new : List ℕ) : Type 0 where
+  pub before :
+      (x y : ℕ) → x < side → y < side → comes_before side address x y ≡ true →
+      slice_get new (y * side + x) ≡ slice_get old (y * side + x)
+  pub behind :
+      (x y : ℕ) → x < side → y < side → comes_before side (address + squares size) x y ≡ false →
+      slice_get new (y * side + x) ≡ slice_get old (y * side + x)
+
+pub record KeepsOtherSamples (size address : ℕ) (old new : Samples) : Type 0 where
+  pub luma : KeepsOthers 64 size address old.luma new.luma
+  pub cb : KeepsOthers 32 size address old.cb new.cb
+  pub cr : KeepsOthers 32 size address old.cr new.cr

@@ -1,0 +1,125 @@
+-- The samples that are seen from a coding tree block while it is decoded: its own, so far as they
+-- are decoded, and those of the blocks around it, by their last columns and rows.
+use Rattle.std.specs.Prelude.{◌≡◌, ℕ, ◌+◌, ◌-◌, ◌*◌, ◌/◌, ◌<◌, ◌≤◌, cond, nat_eq, nat_lt, nat_le, ◌&&◌, List, slice_get, Bool, Option, Some, None}
+use Rattle.hv_unit_model.specs.Sites.{Site, ctb_side, ctb_column, ctb_row, address_of}
+use Rattle.hv_recon_model.specs.Reconstruction.{Component}
+
+-- ---- a block in one colour component
+
+-- its side, in which column and row of blocks it lies, and the sides of the picture; sides are
+-- those of the component, in its samples
+pub record Spot : Type 0 where
+  pub side : ℕ
+  pub column : ℕ
+  pub row : ℕ
+  pub width : ℕ
+  pub height : ℕ
+
+abbrev pub luma_spot : Site → Spot
+luma_spot site = record {
+  side = ctb_side;
+  column = ctb_column site;
+  row = ctb_row site;
+  width = site.width;
+  height = site.height;
+}
+
+abbrev pub chroma_spot : Site → Spot
+chroma_spot site = record {
+  side = ctb_side / 2;
+  column = ctb_column site;
+  row = ctb_row site;
+  width = site.width / 2;
+  height = site.height / 2;
+}
+
+-- ---- the blocks around
+
+-- the samples in the last column of a block, from top to bottom, and those in its last row, from
+-- left to right
+pub record SampleEdges : Type 0 where
+  pub right : List ℕ
+  pub bottom : List ℕ
+
+-- those of the four blocks around that were decoded before it; none where there is no such block
+pub record SamplesAround : Type 0 where
+  pub left : Option SampleEdges
+  pub above_left : Option SampleEdges
+  pub above : Option SampleEdges
+  pub above_right : Option SampleEdges
+
+abbrev pub on_right : Option SampleEdges → ℕ → Option ℕ
+on_right None i = None
+on_right (Some edges) i = slice_get edges.right i
+
+abbrev pub on_bottom : Option SampleEdges → ℕ → Option ℕ
+on_bottom None i = None
+on_bottom (Some edges) i = slice_get edges.bottom i
+
+-- columns and rows are counted in samples, so that those of the block begin at its side
+
+abbrev pub sample_at_left : ℕ → SamplesAround → ℕ → Option ℕ
+sample_at_left side around y =
+    cond (nat_lt y side) (on_bottom around.above_left (side - 1)) (on_right around.left (y - side))
+
+abbrev pub sample_above : ℕ → SamplesAround → ℕ → Option ℕ
+sample_above side around x =
+    cond (nat_lt x (2 * side)) (on_bottom around.above (x - side))
+    (on_bottom around.above_right (x - 2 * side))
+
+-- whether the sample in this column and row of the block lies in a square of 8x8 luma samples whose
+-- address is below this one: there are eight squares in a row (6.5.2)
+abbrev pub comes_before : ℕ → ℕ → ℕ → ℕ → Bool
+comes_before side address x y = nat_lt (address_of (x / (side / 8)) (y / (side / 8))) address
+
+-- inside the block, whose samples are given by rows: it is there where it was decoded before this
+-- address
+abbrev pub sample_inside : ℕ → List ℕ → ℕ → ℕ → ℕ → Option ℕ
+sample_inside side own address x y =
+    cond (nat_lt x side && nat_lt y side && comes_before side address x y)
+    (slice_get own (y * side + x))
+    None
+
+-- from the column and the row before the block on
+abbrev pub sample_around : ℕ → SamplesAround → List ℕ → ℕ → ℕ → ℕ → Option ℕ
+sample_around side around own address x y =
+    cond (nat_lt x side)
+    (sample_at_left side around y)
+    (cond (nat_lt y side) (sample_above side around x)
+    (sample_inside side own address (x - side) (y - side)))
+
+-- ---- in the picture
+
+-- a sample at this column and row, each counted from the side of a block at the picture's left and
+-- top edge, comes behind those edges
+abbrev pub is_behind_edges : Spot → ℕ → ℕ → Bool
+is_behind_edges s x y = nat_le s.side (s.side * s.column + x) && nat_le s.side (s.side * s.row + y)
+
+abbrev pub is_in_picture : Spot → ℕ → ℕ → Bool
+is_in_picture s x y =
+    is_behind_edges s x y &&
+    nat_lt (s.side * s.column + x - s.side) s.width &&
+    nat_lt (s.side * s.row + y - s.side) s.height
+
+-- what is seen from a block by what lies around it, when its squares before this address are
+-- decoded
+unfoldable pub look_around : Spot → SamplesAround → List ℕ → ℕ → ℕ → ℕ → Option ℕ
+look_around s around own address x y =
+    cond (is_in_picture s x y) (sample_around s.side around own address x y) None
+
+-- what is decoded of the picture there
+unfoldable pub look_picture : Spot → Component → ℕ → ℕ → Option ℕ
+look_picture s samples x y =
+    cond (is_behind_edges s x y)
+    (samples (s.side * s.column + x - s.side) (s.side * s.row + y - s.side))
+    None
+
+-- Both are the same, from the column and the row before the block on, up to a side behind it. So
+-- what is decoded there are the last columns and rows of the blocks around, so far as they are
+-- inside the picture, and the block's own samples before this address, and nothing else.
+pub record IsSeen
+    (s : Spot) (around : SamplesAround) (own : List ℕ) (address : ℕ) (samples : Component) :
+    Type 0 where
+  pub sample :
+      (x y : ℕ) → s.side ≤ x + 1 → x < 3 * s.side → s.side ≤ y + 1 → y < 3 * s.side →
+      look_picture s samples x y ≡ look_around s around own address x y

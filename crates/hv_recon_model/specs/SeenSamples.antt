@@ -6,20 +6,20 @@ use Rattle.hv_recon_model.specs.Reconstruction.{Component}
 
 -- ---- a block in one colour component
 
--- its side, in which column and row of blocks it lies, and the sides of the picture; sides are
--- those of the component, in its samples
+-- its side, the column and the row of the picture in which it begins, and the sides of the picture,
+-- in samples of the component
 pub record Spot : Type 0 where
   pub side : ℕ
-  pub column : ℕ
-  pub row : ℕ
+  pub left : ℕ
+  pub top : ℕ
   pub width : ℕ
   pub height : ℕ
 
 abbrev pub luma_spot : Site → Spot
 luma_spot site = record {
   side = ctb_side;
-  column = ctb_column site;
-  row = ctb_row site;
+  left = ctb_side * ctb_column site;
+  top = ctb_side * ctb_row site;
   width = site.width;
   height = site.height;
 }
@@ -27,8 +27,8 @@ luma_spot site = record {
 abbrev pub chroma_spot : Site → Spot
 chroma_spot site = record {
   side = ctb_side / 2;
-  column = ctb_column site;
-  row = ctb_row site;
+  left = ctb_side / 2 * ctb_column site;
+  top = ctb_side / 2 * ctb_row site;
   width = site.width / 2;
   height = site.height / 2;
 }
@@ -93,13 +93,12 @@ sample_around side around own address x y =
 -- a sample at this column and row, each counted from the side of a block at the picture's left and
 -- top edge, comes behind those edges
 abbrev pub is_behind_edges : Spot → ℕ → ℕ → Bool
-is_behind_edges s x y = nat_le s.side (s.side * s.column + x) && nat_le s.side (s.side * s.row + y)
+is_behind_edges s x y = nat_le s.side (s.left + x) && nat_le s.side (s.top + y)
 
 abbrev pub is_in_picture : Spot → ℕ → ℕ → Bool
 is_in_picture s x y =
     is_behind_edges s x y &&
-    nat_lt (s.side * s.column + x - s.side) s.width &&
-    nat_lt (s.side * s.row + y - s.side) s.height
+    nat_lt (s.left + x - s.side) s.width && nat_lt (s.top + y - s.side) s.height
 
 -- what is seen from a block by what lies around it, when its squares before this address are
 -- decoded
@@ -111,7 +110,7 @@ look_around s around own address x y =
 unfoldable pub look_picture : Spot → Component → ℕ → ℕ → Option ℕ
 look_picture s samples x y =
     cond (is_behind_edges s x y)
-    (samples (s.side * s.column + x - s.side) (s.side * s.row + y - s.side))
+    (samples (s.left + x - s.side) (s.top + y - s.side))
     None
 
 -- Both are the same, from the column and the row before the block on, up to a side behind it. So

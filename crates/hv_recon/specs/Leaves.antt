@@ -11,7 +11,7 @@ use Rattle.hv_unit_model.specs.Trees.{Tree}
 use Rattle.hv_unit_model.specs.Sites.{Site, x0, y0, squares}
 use Rattle.hv_unit_model.specs.Plans.{Plan, leaf_at}
 use Rattle.hv_recon_model.specs.Reconstruction.{Decoded, decoded_tree}
-use Rattle.hv_recon_model.specs.SeenSamples.{SampleEdges, SamplesAround, IsSeen, luma_spot, chroma_spot, comes_before}
+use Rattle.hv_recon_model.specs.SeenSamples.{SampleEdges, SamplesAround, IsSeen, luma_spot, chroma_spot, by_rows, comes_before}
 
 -- ---- what lies around
 
@@ -77,10 +77,10 @@ DecodesLeaf plan size address place qp near old new =
 pub record KeepsOthers (side size address : ℕ) (old new : List ℕ) : Type 0 where
   pub before :
       (x y : ℕ) → x < side → y < side → comes_before side address x y ≡ true →
-      slice_get new (y * side + x) ≡ slice_get old (y * side + x)
+      by_rows side new x y ≡ by_rows side old x y
   pub behind :
       (x y : ℕ) → x < side → y < side → comes_before side (address + squares size) x y ≡ false →
-      slice_get new (y * side + x) ≡ slice_get old (y * side + x)
+      by_rows side new x y ≡ by_rows side old x y
 
 pub record KeepsOtherSamples (size address : ℕ) (old new : Samples) : Type 0 where
   pub luma : KeepsOthers 64 size address old.luma new.luma

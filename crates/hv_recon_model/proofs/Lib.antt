@@ -1,3 +1,4 @@
 pub mod DecodedLemmas
 pub mod PictureLemmas
+pub mod SeenLemmas
 mod WorkedReconstructions

@@ -1,6 +1,7 @@
 -- The samples that are seen from a coding tree block while it is decoded: its own, so far as they
 -- are decoded, and those of the blocks around it, by their last columns and rows.
-use Rattle.std.specs.Prelude.{◌≡◌, ℕ, ◌+◌, ◌-◌, ◌*◌, ◌/◌, ◌<◌, ◌≤◌, cond, nat_eq, nat_lt, nat_le, ◌&&◌, List, slice_get, Bool, Option, Some, None}
+use Rattle.std.specs.Prelude.{◌≡◌, ℕ, ◌+◌, ◌-◌, ◌*◌, ◌/◌, ◌^◌, ◌<◌, ◌≤◌, cond, nat_eq, nat_lt, nat_le, ◌&&◌, Bool, List, ◌++◌, slice_get, Option, Some, None}
+use Rattle.hv_lemmas.specs.Lists.{tabulate}
 use Rattle.hv_unit_model.specs.Sites.{Site, ctb_side, ctb_column, ctb_row, address_of}
 use Rattle.hv_recon_model.specs.Reconstruction.{Component}
 
@@ -67,6 +68,10 @@ sample_above side around x =
     cond (nat_lt x (2 * side)) (on_bottom around.above (x - side))
     (on_bottom around.above_right (x - 2 * side))
 
+-- the samples of a block of this side, by rows, in its own columns and rows
+abbrev pub by_rows : ℕ → List ℕ → Component
+by_rows side own x y = slice_get own (y * side + x)
+
 -- whether the sample in this column and row of the block lies in a square of 8x8 luma samples whose
 -- address is below this one: there are eight squares in a row (6.5.2)
 abbrev pub comes_before : ℕ → ℕ → ℕ → ℕ → Bool
@@ -77,7 +82,7 @@ comes_before side address x y = nat_lt (address_of (x / (side / 8)) (y / (side /
 abbrev pub sample_inside : ℕ → List ℕ → ℕ → ℕ → ℕ → Option ℕ
 sample_inside side own address x y =
     cond (nat_lt x side && nat_lt y side && comes_before side address x y)
-    (slice_get own (y * side + x))
+    (by_rows side own x y)
     None
 
 -- from the column and the row before the block on
@@ -112,6 +117,14 @@ look_picture s samples x y =
     cond (is_behind_edges s x y)
     (samples (s.left + x - s.side) (s.top + y - s.side))
     None
+
+-- the neighbours of a block of 2^log2 columns and rows in this column and row, in their order
+abbrev pub seen_line : Spot → SamplesAround → List ℕ → ℕ → ℕ → ℕ → ℕ → List (Option ℕ)
+seen_line s around own address x y log2 =
+    let n = 2 * 2 ^ log2 in
+    let look = look_around s around own address in
+    tabulate (n + 1) (λ i. look (s.side + x - 1) (s.side + y + (n - i) - 1)) ++
+    tabulate n (λ i. look (s.side + x + i) (s.side + y - 1))
 
 -- Both are the same, from the column and the row before the block on, up to a side behind it. So
 -- what is decoded there are the last columns and rows of the blocks around, so far as they are

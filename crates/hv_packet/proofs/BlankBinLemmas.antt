@@ -2,7 +2,7 @@
 use Rattle.std.proofs.Common.{◌≡◌, ℕ, zero, suc, ◌+◌, ◌-◌, ◌*◌, ◌/◌, ◌%◌, ◌^◌, ◌<◌, ◌≤◌, Bool, true, false, cond, List, [], ◌∷◌, ◌++◌, length, map, replicate, refl, sym, ap₂, ◌∙◌, subst, arith, append_assoc, length-append, inl, inr, pow_pos, append-nil}
 use Rattle.std.specs.Prelude.{nat_eq, nat_lt, nat_le, ◌||◌, ◌⊎◌}
 use Rattle.std.proofs.lemmas.List.{map-append}
-use Rattle.std.proofs.lemmas.Bool.{cases_lt, or_parts, ltb-false, ne_eqb}
+use Rattle.std.proofs.lemmas.Bool.{cases_lt, or_parts, ltb-false}
 use Rattle.std.proofs.lemmas.Bool.Decides.{nat_tests}
 use Rattle.hv_types.specs.declared.bins.SliceKind.{SliceKind}
 use Rattle.hv_types.specs.declared.bins.SliceKind.TheVariants.{I, P}
@@ -15,7 +15,7 @@ use Rattle.hv_unit_model.specs.Trees.{Tree, Leaf, Split, Outside, Intra, depth_o
 use Rattle.hv_unit_model.specs.Sites.{Site, site, sites, sites_from, blocks_over, has_left, has_above, x0, y0, column_of, row_of, squares, is_outside, crosses}
 use Rattle.hv_unit_model.specs.EarlierUnits.{Square, Unavailable, Coded, squares_of, after, in_picture, split_ctxInc}
 use Rattle.hv_unit_model.specs.MostProbableModes.{dc, candidates}
-use Rattle.hv_unit_model.specs.Validity.{IsValidNode, is_empty}
+use Rattle.hv_unit_model.specs.Validity.{IsValidNode}
 use Rattle.hv_unit_model.specs.Bins.{bin, merge_bins, sao_type_bins, sao_bins, luma_mode_bins, transform_unit_bins, quarters_bins, transform_tree_bins, pred_mode_bins, predicted_bins, bins_of_node, slice_bins, slice_bins_from}
 use Rattle.hv_unit_model.proofs.TransformLemmas.{no_units_valid}
 use Rattle.hv_unit_model.proofs.SquareLemmas.{length-squares}
@@ -23,6 +23,7 @@ use Rattle.hv_unit_model.proofs.NodeLemmas.{IsNode, around, square_in_node, arou
 use Rattle.hv_unit_model.proofs.BlankLemmas.{IsBlank, AllBlank, LiesInside, none_blank, blank_nowhere, blank_then, blank_alike, ParentsCross, leaf_square, left_is_flat, above_is_flat, dc_candidates}
 use Rattle.hv_slice_model.specs.BlankUnits.{no_offsets, blank_node, blank_tree, blank_units}
 use Rattle.hv_packet.specs.BlankBins as put
+use Rattle.hv_packet.proofs.SliceBinLemmas.{last_of_count}
 
 -- ---- what is left of a picture, and where a node begins
 
@@ -470,11 +471,6 @@ sao_same width height index =
     sao_by (has_left (site width height index)) (has_above (site width height index))
 
 -- ---- a slice
-
-last_of_count : (count width height index : ℕ) →
-    is_empty (sites_from count width height index) ≡ nat_eq count 0
-last_of_count zero width height index = refl
-last_of_count (suc count) width height index = sym (ne_eqb (suc count) 0 (λ e. omega (arith, e)))
 
 blocks_defined : (kind : SliceKind) (references width height count index : ℕ) (done : List Square) →
     AllBlank width height done → length done ≡ 64 * index →

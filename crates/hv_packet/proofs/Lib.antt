@@ -1,4 +1,6 @@
+mod SliceBinLemmas
 mod BlankBinLemmas
 mod PuttingLemmas
-mod SliceBinLemmas
 mod HeaderLemmas
+mod AroundLemmas
+mod PlannedLemmas

@@ -4,12 +4,27 @@ use Rattle.std.specs.Prelude.{nat_eq}
 use Rattle.std.specs.Int.{div_ceil}
 use Rattle.std.proofs.lemmas.Bool.{ne_eqb}
 use Rattle.hv_types.specs.declared.bins.SliceKind.{SliceKind}
-use Rattle.hv_unit_model.specs.Sites.{blocks_over}
+use Rattle.hv_unit_model.specs.Sites.{blocks_over, sites_from}
+use Rattle.hv_unit_model.specs.Validity.{is_empty}
 use Rattle.hv_packet.specs.BlankBins.{block_bins, blocks_bins, picture_bins}
 
 -- as the code counts the blocks over so many samples
 pub blocks_counted : (samples : ℕ) → div_ceil samples 64 ≡ blocks_over samples
 blocks_counted samples = omega arith
+
+-- no block is behind the last one, and behind that one alone
+pub ends : (left index total : ℕ) → left ≡ total - index → index ≤ total →
+    nat_eq left 0 ≡ nat_eq index total
+ends zero index total e h = sym (eq-eqb index total (omega (arith, e, h)))
+ends (suc left) index total e h =
+    ne_eqb (suc left) 0 (λ same. omega (arith, same)) ∙
+    sym (ne_eqb index total (λ same. omega (arith, e, h, same)))
+
+-- whether a block is behind so many
+pub last_of_count : (count width height index : ℕ) →
+    is_empty (sites_from count width height index) ≡ nat_eq count 0
+last_of_count zero width height index = refl
+last_of_count (suc count) width height index = sym (ne_eqb (suc count) 0 (λ e. omega (arith, e)))
 
 module _ (slice_type : SliceKind) (width height : ℕ) where
   -- the bins of all blocks
@@ -19,14 +34,6 @@ module _ (slice_type : SliceKind) (width height : ℕ) where
 
   pub no_bins : (count index : ℕ) → count ≡ 0 → blocks_bins slice_type width height count index ≡ []
   no_bins count index e = rw e refl
-
-  -- no block is behind the last one, and behind that one alone
-  ends : (left index total : ℕ) → left ≡ total - index → index ≤ total →
-      nat_eq left 0 ≡ nat_eq index total
-  ends zero index total e h = sym (eq-eqb index total (omega (arith, e, h)))
-  ends (suc left) index total e h =
-      ne_eqb (suc left) 0 (λ same. omega (arith, same)) ∙
-      sym (ne_eqb index total (λ same. omega (arith, e, h, same)))
 
   -- the bins of a block, and those of the blocks behind it
   pub first_bins : (columns total index : ℕ) → columns ≡ blocks_over width → index < total →

@@ -1,1 +1,2 @@
 pub mod BlankBins
+pub mod BlockPlans

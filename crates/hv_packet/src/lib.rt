@@ -1,9 +1,11 @@
 //! The unit of a coded picture.
 #![tactic(auto)]
 
+mod blank;
+mod blocks;
 mod slice;
 #[cfg(test)]
 mod tests;
 mod unit;
 
-pub use unit::picture_unit;
+pub use unit::{code_picture, picture_unit};

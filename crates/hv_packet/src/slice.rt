@@ -1,64 +1,70 @@
-//! The slice of a picture in which nothing is chosen: its header, and its data.
+//! The slice of a picture of a group: what its data depend on, its header, and its payload.
 
-ghost use Rattle.std.specs.Prelude.{◌≡◌, ◌≢◌, ◌*◌, ◌^◌, ◌<◌, ◌≤◌, [], ◌∷◌, ◌++◌, true, false, ℕ, length, IfOk};
-ghost use Rattle.hv_types.specs.Bins.{Puts};
+ghost use Rattle.std.specs.Prelude.{◌≡◌, ◌≢◌, ◌<◌, ◌≤◌, ℕ, List, length, IfOk};
+ghost use Rattle.hv_types.specs.declared.settings.Settings.{Settings};
+ghost use Rattle.hv_types.specs.Configuration.{padded_width, padded_height};
 ghost use Rattle.hv_stream_model.specs.Bits.{bytes_of};
 ghost use Rattle.hv_stream_model.specs.Fields.{aligned, bits_of_fields};
 ghost use Rattle.hv_stream_model.specs.Units.{last_of};
-ghost use Rattle.hv_types.specs.declared.settings.Settings.{Settings};
-ghost use Rattle.hv_stream_model.specs.Headers.{SliceHeader, slice_header_of};
-ghost use Rattle.hv_unit_model.specs.Sites.{sites};
-ghost use Rattle.hv_slice_model.specs.Slices.{header_in, picture_sites, word_behind};
-ghost use Rattle.hv_slice_model.specs.Slices.{payload_of_slice};
-ghost use Rattle.hv_slice_model.specs.BlankUnits.{blank_units};
-ghost use Rattle.hv_packet.specs.BlankBins.{bin, mode_bins, part_bins, prediction_bins, luma_bins};
-ghost use Rattle.hv_packet.specs.BlankBins.{transform_bins, unit_bins, split_bins, node_bins};
-ghost use Rattle.hv_packet.specs.BlankBins.{merge_bins, block_bins, picture_bins};
+ghost use Rattle.hv_stream_model.specs.Headers.{slice_header_of, used_count};
+ghost use Rattle.hv_unit_model.specs.Trees.{CodingTreeUnit};
+ghost use Rattle.hv_unit_model.specs.Sites.{Site};
+ghost use Rattle.hv_slice_model.specs.Slices.{header_in, word_behind, payload_of_slice};
 
 use hv_bits::BitWriter;
-use hv_cabac::{BinSink, Ctx, CtxTable, Encoder, SliceKind};
+use hv_cabac::SliceKind;
 use hv_decision::Group;
-use hv_slice::write_slice_header;
-use hv_slice_model::{blank_units_are_valid, slice_data_ends, slices_end};
+use hv_slice::{active_references, write_slice_header};
+use hv_slice_model::slices_end;
 use hv_stream_model::{aligned_bits_are_whole, bytes_append};
 use hv_types::NoMemory;
-use hv_unit_model::sites_are_there;
 use std::alloc::Global;
 
-/// The side of a coding tree block in luma samples (CtbSizeY).
-const CTB_SIDE: u32 = 64;
+/// What the data of a picture's slice depend on, beside its coding tree units.
+#[derive(Clone, Copy)]
+pub struct Slice {
+    pub kind: SliceKind,
+    /// How many pictures list 0 has (num_ref_idx_l0_active_minus1 + 1), 0 in an I slice.
+    pub references: u8,
+    /// SliceQpY
+    pub qp: u8,
+    /// The width of the padded picture, in luma samples.
+    pub width: u32,
+    /// The height of the padded picture, in luma samples.
+    pub height: u32,
+    pub ghost width_least: { 8 ≤ width },
+    pub ghost width_most: { width ≤ 4096 },
+    pub ghost height_least: { 8 ≤ height },
+    pub ghost height_most: { height ≤ 2176 },
+}
 
-/// The size of a node that is a whole coding tree block. A node's side is 8 << size luma samples.
-const CTB_SIZE: u8 = 3;
+impl Slice {
+    ghost use Rattle.std.specs.Prelude.{◌≡◌, ◌<◌, length};
+    ghost use Rattle.hv_types.specs.Configuration.{padded_width, padded_height};
+    ghost use Rattle.hv_stream_model.specs.Headers.{used_count};
+    ghost use Rattle.hv_slice_model.specs.Slices.{header_in};
 
-/// The payload of the slice of a picture of a group, of which picture 0 is an IDR picture and each
-/// other one is a P picture, where nothing is chosen (7.3.2.9): its header with a byte_alignment,
-/// and its data. Pictures are numbered in output order from 0. `NoMemory` where a growth failed.
-pub fn slice_payload(alloc: Global, group: &Group, picture: u8) -> Result<Vec<u8>, NoMemory>
-    requires picture { picture < length group.now.input.pictures }
-    ensures value { IfOk result (λ payload. payload.items ≡ payload_of_slice
-        (header_in group.now.input.config (length group.now.input.pictures) picture)
-        (picture_sites group.now.input.config)
-        (blank_units (picture_sites group.now.input.config))) }
-    // as the payload of a unit has to (7.4.2)
-    ensures ends { IfOk result (λ payload. last_of payload.items ≢ 0) }
-{
-    bytes_append();
-    aligned_bits_are_whole();
-    slices_end();
-    let config = group.input.config();
-    let qp = group.structure.qp(picture, config.settings().qp);
-    let slice_type = kind_of(picture);
-    let mut payload = header(alloc, group, picture)?;
-    let data = slice_data(
-        alloc,
-        slice_type,
-        qp,
-        config.padded_width(),
-        config.padded_height(),
-    )?;
-    payload.extend_from_slice(&data)?;
-    Ok(payload)
+    /// That of a picture of a group.
+    pub fn of(group: &Group, picture: u8) -> Slice
+        requires picture { picture < length group.now.input.pictures }
+        ensures kind { result.kind ≡ (header_in group.now.input.config
+            (length group.now.input.pictures) picture).slice_type }
+        ensures references { result.references ≡ used_count (header_in group.now.input.config
+            (length group.now.input.pictures) picture).references }
+        ensures qp { result.qp ≡ (header_in group.now.input.config
+            (length group.now.input.pictures) picture).qp }
+        ensures width { result.width ≡ padded_width group.now.input.config }
+        ensures height { result.height ≡ padded_height group.now.input.config }
+    {
+        let config = group.input.config();
+        Slice {
+            kind: kind_of(picture),
+            references: references_of(group, picture),
+            qp: group.structure.qp(picture, config.settings().qp),
+            width: config.padded_width(),
+            height: config.padded_height(),
+        }
+    }
 }
 
 /// The kind of the slice of a picture of a group.
@@ -72,198 +78,47 @@ fn kind_of(picture: u8) -> SliceKind
     }
 }
 
-/// The slice data (7.3.8.1), as a code word with zeros to the byte.
-fn slice_data(
+/// How many pictures the slice of a picture of a group refers to.
+fn references_of(group: &Group, picture: u8) -> u8
+    requires picture { picture < length group.now.input.pictures }
+    ensures { result ≡ used_count (header_in group.now.input.config
+        (length group.now.input.pictures) picture).references }
+{
+    if picture == 0 {
+        0
+    } else {
+        active_references(&group.structure, picture)
+    }
+}
+
+/// The payload of the slice of a picture of a group (7.3.2.9), of which picture 0 is an IDR picture
+/// and each other one is a P picture, with these `bytes` of slice data: its header with a
+/// byte_alignment, and the data. Pictures are numbered in output order from 0. `NoMemory` where a
+/// growth failed.
+pub fn slice_payload(
     alloc: Global,
-    slice_type: SliceKind,
-    qp: u8,
-    width: u32,
-    height: u32,
+    group: &Group,
+    picture: u8,
+    bytes: &[u8],
 ) -> Result<Vec<u8>, NoMemory>
-    requires width_least { 8 ≤ width }
-    requires width_most { width ≤ 4096 }
-    requires height_least { 8 ≤ height }
-    requires height_most { height ≤ 2176 }
-    ensures { IfOk result (λ bytes. (header : SliceHeader) →
-        header.slice_type ≡ slice_type → header.qp ≡ qp →
-        bytes.items ≡ bytes_of (word_behind header (sites width height)
-            (blank_units (sites width height)))) }
+    requires picture { picture < length group.now.input.pictures }
+    ensures value { IfOk result (λ payload. (sites : List Site) (units : List CodingTreeUnit) →
+        bytes.now ≡ bytes_of (word_behind (header_in group.now.input.config
+        (length group.now.input.pictures) picture) sites units) →
+        payload.items ≡ payload_of_slice (header_in group.now.input.config
+        (length group.now.input.pictures) picture) sites units) }
+    // as the payload of a unit has to (7.4.2)
+    ensures ends { IfOk result (λ payload. (sites : List Site) (units : List CodingTreeUnit) →
+        bytes.now ≡ bytes_of (word_behind (header_in group.now.input.config
+        (length group.now.input.pictures) picture) sites units) →
+        last_of payload.items ≢ 0) }
 {
-    sites_are_there();
-    blank_units_are_valid();
-    slice_data_ends();
-    let mut encoder = Encoder::new(alloc, slice_type, qp);
-    put_slice_data(&mut encoder, slice_type, width, height);
-    encoder.finish()
-}
-
-/// slice_segment_data (7.3.8.1) of a picture of these sides in luma samples: the coding tree units
-/// of its blocks, in raster order. The last one ends the slice.
-fn put_slice_data<B: BinSink>(sink: &mut B, slice_type: SliceKind, width: u32, height: u32)
-    requires width { width ≤ 4096 }
-    requires height { height ≤ 2176 }
-    ensures { Puts B.stands_for sink.old sink.new (picture_bins slice_type width height) }
-{
-    let columns = width.div_ceil(CTB_SIDE);
-    let count = columns * height.div_ceil(CTB_SIDE);
-    for index in 0..count {
-        let column = index % columns;
-        let row = index / columns;
-        let is_last = index + 1 == count;
-        put_coding_tree_unit(sink, slice_type, width, height, column, row, is_last);
-    }
-}
-
-/// coding_tree_unit (7.3.8.2) of the block in this column and row, from 0, of a picture of these
-/// sides in luma samples, and end_of_slice_segment_flag.
-fn put_coding_tree_unit<B: BinSink>(
-    sink: &mut B,
-    slice_type: SliceKind,
-    width: u32,
-    height: u32,
-    column: u32,
-    row: u32,
-    is_last: bool,
-)
-    requires across { 64 * column < width }
-    requires down { 64 * row < height }
-    ensures { Puts B.stands_for sink.old sink.new
-        (block_bins slice_type width height column row is_last) }
-{
-    put_merge(sink, column > 0);
-    put_merge(sink, row > 0);
-    put_element(sink, CtxTable::SaoType, 0, false);
-    put_element(sink, CtxTable::SaoType, 0, false);
-    put_quadtree(
-        sink,
-        slice_type,
-        CTB_SIZE,
-        width - CTB_SIDE * column,
-        height - CTB_SIDE * row,
-    );
-    sink.terminate(is_last);
-}
-
-/// sao_merge_left_flag or sao_merge_up_flag, 0, where there is a block to merge with (7.3.8.3).
-fn put_merge<B: BinSink>(sink: &mut B, is_there: bool)
-    ensures { Puts B.stands_for sink.old sink.new (merge_bins is_there) }
-{
-    if is_there {
-        put_element(sink, CtxTable::SaoMerge, 0, false);
-    }
-}
-
-/// coding_quadtree (7.3.8.4) of a node of this size, 0 to 3, in which nothing is chosen. `width`
-/// and `height` say how much of the picture there is from its upper left corner on, in luma
-/// samples: a node that crosses the picture's edge is split without a flag, down to 8x8, and
-/// nothing is coded of one outside.
-fn put_quadtree<B: BinSink>(sink: &mut B, slice_type: SliceKind, size: u8, width: u32, height: u32)
-    requires size { size ≤ 3 }
-    ensures { Puts B.stands_for sink.old sink.new (node_bins slice_type size width height) }
-{
-    if width == 0 || height == 0 {
-        return;
-    }
-    if size > 0 && (width < side(size) || height < side(size)) {
-        let right = width.saturating_sub(side(size - 1));
-        let below = height.saturating_sub(side(size - 1));
-        put_quadtree(sink, slice_type, size - 1, width, height);
-        put_quadtree(sink, slice_type, size - 1, right, height);
-        put_quadtree(sink, slice_type, size - 1, width, below);
-        put_quadtree(sink, slice_type, size - 1, right, below);
-    } else {
-        put_coding_unit(sink, slice_type, size);
-    }
-}
-
-/// The side of a node in luma samples: 8, 16, 32 or 64.
-fn side(size: u8) -> u32
-    requires { size ≤ 3 }
-    ensures { result ≡ 8 * 2 ^ size }
-{
-    8 << size
-}
-
-/// split_cu_flag, 0, and coding_unit (7.3.8.5) of a node of this size.
-fn put_coding_unit<B: BinSink>(sink: &mut B, slice_type: SliceKind, size: u8)
-    ensures { Puts B.stands_for sink.old sink.new (split_bins size ++ unit_bins slice_type size) }
-{
-    put_split_flag(sink, size);
-    put_mode(sink, slice_type);
-    put_part_mode(sink, size);
-    put_prediction(sink);
-    put_transform_tree(sink, size);
-}
-
-/// split_cu_flag, 0: a unit of 8x8 has none, and no unit at the left or above is deeper.
-fn put_split_flag<B: BinSink>(sink: &mut B, size: u8)
-    ensures { Puts B.stands_for sink.old sink.new (split_bins size) }
-{
-    if size > 0 {
-        put_element(sink, CtxTable::Split, 0, false);
-    }
-}
-
-/// cu_skip_flag, 0, and pred_mode_flag, 1 for intra prediction, which P slices have alone.
-fn put_mode<B: BinSink>(sink: &mut B, slice_type: SliceKind)
-    ensures { Puts B.stands_for sink.old sink.new (mode_bins slice_type) }
-{
-    match slice_type {
-        SliceKind::I => {}
-        SliceKind::P => {
-            put_element(sink, CtxTable::Skip, 0, false);
-            put_element(sink, CtxTable::PredMode, 0, true);
-        }
-    }
-}
-
-/// part_mode, which a unit of 8x8 has alone: PART_2Nx2N.
-fn put_part_mode<B: BinSink>(sink: &mut B, size: u8)
-    ensures { Puts B.stands_for sink.old sink.new (part_bins size) }
-{
-    if size == 0 {
-        put_element(sink, CtxTable::PartMode, 0, true);
-    }
-}
-
-/// Mode DC as the second of the most probable modes, and the chroma mode that follows it (7.3.8.5).
-fn put_prediction<B: BinSink>(sink: &mut B)
-    ensures { Puts B.stands_for sink.old sink.new prediction_bins }
-{
-    put_element(sink, CtxTable::PrevIntra, 0, true);
-    sink.bypass(true);
-    sink.bypass(false);
-    put_element(sink, CtxTable::ChromaMode, 0, false);
-}
-
-/// transform_tree without a level but 0 (7.3.8.8): cbf_cb and cbf_cr of the whole, and cbf_luma.
-fn put_transform_tree<B: BinSink>(sink: &mut B, size: u8)
-    ensures { Puts B.stands_for sink.old sink.new (transform_bins size) }
-{
-    put_element(sink, CtxTable::CbfChroma, 0, false);
-    put_element(sink, CtxTable::CbfChroma, 0, false);
-    put_luma_flags(sink, size);
-}
-
-/// cbf_luma, 0: of a unit of 64x64 that of each of its four transform blocks of 32x32.
-fn put_luma_flags<B: BinSink>(sink: &mut B, size: u8)
-    ensures { Puts B.stands_for sink.old sink.new (luma_bins size) }
-{
-    if size < CTB_SIZE {
-        put_element(sink, CtxTable::CbfLuma, 1, false);
-    } else {
-        put_element(sink, CtxTable::CbfLuma, 0, false);
-        put_element(sink, CtxTable::CbfLuma, 0, false);
-        put_element(sink, CtxTable::CbfLuma, 0, false);
-        put_element(sink, CtxTable::CbfLuma, 0, false);
-    }
-}
-
-/// A syntax element of one bin, coded with the context variable at this place of its table.
-fn put_element<B: BinSink>(sink: &mut B, table: CtxTable, index: u8, value: bool)
-    ensures { Puts B.stands_for sink.old sink.new (bin table index value ∷ []) }
-{
-    sink.bin(Ctx { table, index }, value);
+    bytes_append();
+    aligned_bits_are_whole();
+    slices_end();
+    let mut payload = header(alloc, group, picture)?;
+    payload.extend_from_slice(bytes)?;
+    Ok(payload)
 }
 
 /// The header with its byte_alignment (7.3.6.1, 7.3.2.12).

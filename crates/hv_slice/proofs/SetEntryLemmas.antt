@@ -3,7 +3,7 @@
 use Rattle.std.proofs.Common.{◌≡◌, ◌≢◌, ℕ, zero, suc, ◌+◌, ◌-◌, ◌<◌, ◌≤◌, List, [], ◌∷◌, ◌++◌, length, map, take, drop, refl, sym, ap, ap₂, ◌∙◌, arith}
 use Rattle.std.specs.Prelude.{slice_get, slice_set, Some, pos, neg_ℤ}
 use Rattle.std.specs.Int.RustNames.{unsigned_abs}
-use Rattle.std.proofs.lemmas.List.{take_at, drop_at, take-take, drop-take, take_more, take_more_set, length-set, length-map, length-append}
+use Rattle.std.proofs.lemmas.List.{take_at, drop_at, take-take, drop-take, take_more, take_more_set, length-set, length-map}
 use Rattle.std.proofs.lemmas.Option.{get_or_from_slice_get}
 use Rattle.hv_types.specs.Configuration.{most_levels}
 use Rattle.hv_types.specs.declared.bins.SliceKind.TheVariants.{P}
@@ -12,7 +12,6 @@ use Rattle.hv_stream_model.specs.Headers.{SliceHeader, slice, slice_header_of}
 use Rattle.hv_stream_model.specs.HeaderLaws.{IsAllowedSlice, SlicesOfGroupsAreAllowed, header_of}
 use Rattle.hv_decision.specs.declared.row.SetEntry.{SetEntry}
 use Rattle.hv_decision.specs.Sets.{entry_before, entry_after, set_entries}
-use Rattle.hv_decision.proofs.SetLemmas.{length-set_entries}
 use Rattle.hv_slice.specs.Entries.{kept_of, side_of, header_with}
 
 -- ---- gathering

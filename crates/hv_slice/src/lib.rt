@@ -5,6 +5,7 @@ mod header;
 mod references;
 
 pub use header::write_slice_header;
+pub use references::active_references;
 
 #[cfg(test)]
 mod tests;

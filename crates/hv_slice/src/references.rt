@@ -4,7 +4,7 @@ ghost use Rattle.std.specs.Prelude.{◌≡◌, ◌≤◌, ◌<◌, length, take}
 ghost use Rattle.hv_types.specs.Configuration.{most_levels};
 ghost use Rattle.hv_bits.specs.Writing.{Appends};
 ghost use Rattle.hv_stream_model.specs.Fields.{bits_of_fields};
-ghost use Rattle.hv_stream_model.specs.Headers.{side_fields, set_fields, used_in};
+ghost use Rattle.hv_stream_model.specs.Headers.{side_fields, set_fields, used_in, used_count};
 ghost use Rattle.hv_stream_model.specs.HeaderLaws.{Rise};
 ghost use Rattle.hv_group_model.specs.Structure.{reference_set, set_size};
 ghost use Rattle.hv_decision.specs.Sets.{set_entries};
@@ -32,6 +32,21 @@ pub fn entries(structure: &Structure, picture: u8) -> [SetEntry; 4]
     entries
 }
 
+/// How many pictures a picture of a group of this structure refers to, which is how many list 0 of
+/// its slice has (`num_ref_idx_l0_active_minus1` + 1, 7.4.7.1): the used ones of its reference set.
+/// The first one refers to none. It takes no memory.
+pub fn active_references(structure: &Structure, picture: u8) -> u8
+    requires { picture < structure.now.count }
+    ensures { result ≡
+        used_count (reference_set structure.now.count structure.now.levels picture) }
+{
+    structure.levels();
+    let before = usize::from(structure.before_len(picture));
+    let all = usize::from(structure.set_len(picture));
+    let entries = entries(structure, picture);
+    (used_count(&entries[..before]) + used_count(&entries[before..all])) as u8
+}
+
 /// st_ref_pic_set (7.3.7) of a slice header: the entries before the picture and those after it in
 /// output order, the nearest first.
 pub fn put_set(writer: &mut BitWriter, before: &[SetEntry], after: &[SetEntry])
@@ -56,7 +71,8 @@ pub fn put_set(writer: &mut BitWriter, before: &[SetEntry], after: &[SetEntry])
 /// How many of these pictures the picture itself refers to.
 pub fn used_count(side: &[SetEntry]) -> u32
     requires { length side.now ≤ 64 }
-    ensures { result ≡ used_in (side_of side.now) }
+    ensures value { result ≡ used_in (side_of side.now) }
+    ensures most { result ≤ length side.now }
 {
     let mut used = 0u32;
     for entry in side {

@@ -1,3 +1,4 @@
 pub mod Slices
 pub mod BlankUnits
 pub mod SliceLaws
+pub mod PlannedUnits

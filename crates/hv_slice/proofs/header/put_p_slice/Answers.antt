@@ -15,7 +15,7 @@ returns c =
     let start = map field_of c.p_start.result in
     let set = set_fields (set_of before after) in
     let end = map field_of c.p_end.result in
-    let used = ap₂ (λ n m. n + m) c.used_count.ensures c.used_count-2.ensures in
+    let used = ap₂ (λ n m. n + m) c.used_count.ensures.value c.used_count-2.ensures.value in
     subst (λ f. Appends c.args.writer.now c.put_fields-2.new.writer (bits_of_fields f))
     (parts_make c.args.picture c.args.qp _ before after start end c.p_start.ensures.value
     c.p_end.ensures.value used)

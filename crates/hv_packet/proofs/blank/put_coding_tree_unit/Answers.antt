@@ -1,6 +1,6 @@
 -- The bins of the calls, one behind the other.
 use Rattle.hv_packet.proofs.PuttingLemmas.{puts_both}
-use Rattle.hv_packet.proofs.slice.put_coding_tree_unit.Goals as goal
+use Rattle.hv_packet.proofs.blank.put_coding_tree_unit.Goals as goal
 
 pub returns : goal.returns
 returns g c =

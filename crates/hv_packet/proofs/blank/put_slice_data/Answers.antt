@@ -4,7 +4,7 @@ use Rattle.hv_types.specs.Bins.{Puts}
 use Rattle.hv_unit_model.specs.Sites.{blocks_over}
 use Rattle.hv_packet.proofs.PuttingLemmas.{leaves_less, leaves_nothing}
 use Rattle.hv_packet.proofs.SliceBinLemmas.{blocks_counted, all_bins, no_bins, first_bins}
-use Rattle.hv_packet.proofs.slice.put_slice_data.Goals as goal
+use Rattle.hv_packet.proofs.blank.put_slice_data.Goals as goal
 
 pub loop-index-preserved : goal.loop-index-preserved
 loop-index-preserved g c =

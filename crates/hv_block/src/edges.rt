@@ -51,9 +51,10 @@ impl Block {
     }
 }
 
-/// The address in z-scan order (6.5.2) of the square in this column and row of a block.
+/// The address in z-scan order (6.5.2) of the square of 8x8 luma samples in this column and row of
+/// a coding tree block, each below 8. Takes no memory.
 #[tactic(auto, unfolding(crate::specs::Edges::address_of))]
-fn address_of(column: usize, row: usize) -> usize
+pub fn address_of(column: usize, row: usize) -> usize
     requires column { column < 8 }
     requires row { row < 8 }
     ensures value { result ≡ address_of column row }

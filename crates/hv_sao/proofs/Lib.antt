@@ -7,7 +7,7 @@ mod GrowthLemmas
 mod KeyLemmas
 mod NumberLemmas
 mod PictureLemmas
-mod PlaneLemmas
+pub mod PlaneLemmas
 pub mod PowerLemmas
 mod PriceLemmas
 mod RowLemmas

@@ -1,0 +1,4 @@
+mod ChoiceLemmas
+mod FilterLemmas
+mod JoinLemmas
+mod SquareLemmas

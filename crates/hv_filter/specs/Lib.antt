@@ -1,0 +1,2 @@
+pub mod FilteredPicture
+pub mod JoinedPicture

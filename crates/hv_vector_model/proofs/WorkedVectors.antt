@@ -9,7 +9,7 @@ use Rattle.hv_unit_model.specs.Sites.{site, address_of, column_of, row_of}
 use Rattle.hv_unit_model.specs.EarlierUnits.{look_picture}
 use Rattle.hv_vector_model.specs.declared.motion.Moving.{Moving}
 use Rattle.hv_vector_model.specs.declared.motion.Neighbourhood.{Neighbourhood}
-use Rattle.hv_vector_model.specs.VectorPrediction.{Distances, cut, tx, distScaleFactor, scaled_component, scaled, mvpListL0}
+use Rattle.hv_vector_model.specs.VectorPrediction.{Distances, cut, distance, tx, distScaleFactor, scaled_component, scaled, mvpListL0}
 use Rattle.hv_vector_model.specs.Vectors.{moved_by, tree_with_vectors, trees_with_vectors}
 
 abbrev minus : ℕ → ℤ
@@ -83,26 +83,26 @@ before_the_cut = refl
 
 -- (10, -7) from -4 to 4 and to 3, and both the other way
 opposite : scaled (minus 4) (pos 4) (vector (pos 10) (minus 7)) ≡ vector (minus 10) (pos 7)
-unfolding vector
+unfolding scaled vector
 opposite = refl
 
 opposite_and_shorter :
     scaled (minus 4) (pos 3) (vector (pos 10) (minus 7)) ≡ vector (minus 7) (pos 5)
-unfolding vector
+unfolding scaled vector
 opposite_and_shorter = refl
 
 shorter : scaled (pos 4) (pos 3) (vector (pos 10) (minus 7)) ≡ vector (pos 7) (minus 5)
-unfolding vector
+unfolding scaled vector
 shorter = refl
 
 from_front_to_back :
     scaled (pos 4) (minus 2) (vector (pos 10) (minus 7)) ≡ vector (minus 5) (pos 3)
-unfolding vector
+unfolding scaled vector
 from_front_to_back = refl
 
 -- from 200, which is cut to 127, to 100
 far : scaled (pos 200) (pos 100) (vector (pos 1000) (minus 1000)) ≡ vector (pos 789) (minus 789)
-unfolding vector
+unfolding scaled vector
 far = refl
 
 -- ---- candidates: entry 0 is 4 pictures before, entry 1 is 2 pictures behind
@@ -125,19 +125,19 @@ zero : Mv
 zero = vector (pos 0) (pos 0)
 
 nothing_moves : candidates (around None None None None None) ≡ zero ∷ zero ∷ []
-unfolding candidates around distances zero vector
+unfolding candidates around distances distance scaled zero vector
 nothing_moves = refl
 
 a0_goes_first :
     candidates (around (moving 0 (pos 1) (pos 2)) (moving 0 (pos 3) (pos 4)) None None None) ≡
     vector (pos 1) (pos 2) ∷ zero ∷ []
-unfolding candidates around distances moving zero vector
+unfolding candidates around distances distance scaled moving zero vector
 a0_goes_first = refl
 
 same_reference_goes_first :
     candidates (around (moving 1 (pos 1) (pos 2)) (moving 0 (pos 3) (pos 4)) None None None) ≡
     vector (pos 3) (pos 4) ∷ zero ∷ []
-unfolding candidates around distances moving zero vector
+unfolding candidates around distances distance scaled moving zero vector
 same_reference_goes_first = refl
 
 -- by -2
@@ -145,13 +145,13 @@ a0_is_scaled :
     candidates
     (around (moving 1 (pos 5) (minus 3)) (moving 1 (pos 3) (pos 4)) None None None) ≡
     vector (minus 10) (pos 6) ∷ zero ∷ []
-unfolding candidates around distances moving zero vector
+unfolding candidates around distances distance scaled moving zero vector
 a0_is_scaled = refl
 
 a1_is_scaled :
     candidates (around None (moving 1 (pos 5) (minus 3)) None None None) ≡
     vector (minus 10) (pos 6) ∷ zero ∷ []
-unfolding candidates around distances moving zero vector
+unfolding candidates around distances distance scaled moving zero vector
 a1_is_scaled = refl
 
 both_are_found :
@@ -159,7 +159,7 @@ both_are_found :
     (around (moving 0 (pos 1) (pos 2)) None (moving 1 (pos 9) (pos 9)) (moving 0 (pos 3) (pos 4))
     (moving 0 (pos 7) (pos 7))) ≡
     vector (pos 1) (pos 2) ∷ vector (pos 3) (pos 4) ∷ []
-unfolding candidates around distances moving zero vector
+unfolding candidates around distances distance scaled moving zero vector
 both_are_found = refl
 
 -- those above aren't scaled where one at the left moves, even if that is scaled
@@ -167,21 +167,21 @@ b_is_not_scaled :
     candidates
     (around None (moving 1 (pos 5) (minus 3)) (moving 1 (pos 9) (pos 9)) None None) ≡
     vector (minus 10) (pos 6) ∷ zero ∷ []
-unfolding candidates around distances moving zero vector
+unfolding candidates around distances distance scaled moving zero vector
 b_is_not_scaled = refl
 
 equal_ones :
     candidates
     (around (moving 0 (pos 1) (pos 2)) None None None (moving 0 (pos 1) (pos 2))) ≡
     vector (pos 1) (pos 2) ∷ zero ∷ []
-unfolding candidates around distances moving zero vector
+unfolding candidates around distances distance scaled moving zero vector
 equal_ones = refl
 
 equal_in_one_component :
     candidates
     (around (moving 0 (pos 1) (pos 2)) None None None (moving 0 (pos 1) (pos 3))) ≡
     vector (pos 1) (pos 2) ∷ vector (pos 1) (pos 3) ∷ []
-unfolding candidates around distances moving zero vector
+unfolding candidates around distances distance scaled moving zero vector
 equal_in_one_component = refl
 
 -- Nothing at the left: A takes B1, whose reference is the same, and B is B0, scaled.
@@ -189,14 +189,14 @@ a_takes_b :
     candidates
     (around None None (moving 1 (pos 5) (minus 3)) (moving 0 (pos 3) (pos 4)) None) ≡
     vector (pos 3) (pos 4) ∷ vector (minus 10) (pos 6) ∷ []
-unfolding candidates around distances moving zero vector
+unfolding candidates around distances distance scaled moving zero vector
 a_takes_b = refl
 
 -- B is B2 again, and equals A
 a_takes_b2 :
     candidates (around None None None None (moving 0 (pos 3) (pos 4))) ≡
     vector (pos 3) (pos 4) ∷ zero ∷ []
-unfolding candidates around distances moving zero vector
+unfolding candidates around distances distance scaled moving zero vector
 a_takes_b2 = refl
 
 -- B alone, scaled
@@ -204,14 +204,14 @@ b1_is_scaled :
     candidates
     (around None None None (moving 1 (pos 5) (minus 3)) (moving 1 (pos 9) (pos 9))) ≡
     vector (minus 10) (pos 6) ∷ zero ∷ []
-unfolding candidates around distances moving zero vector
+unfolding candidates around distances distance scaled moving zero vector
 b1_is_scaled = refl
 
 -- for entry 1, by -1/2
 for_the_other :
     mvpListL0 distances 1 (around (moving 0 (pos 10) (minus 7)) None None None None) ≡
     vector (minus 5) (pos 3) ∷ zero ∷ []
-unfolding around distances moving zero vector
+unfolding around distances distance scaled moving zero vector
 for_the_other = refl
 
 -- ---- vectors

@@ -15,7 +15,7 @@ use Rattle.hv_vector_model.specs.declared.motion.Neighbourhood.{Neighbourhood}
 abbrev pub Distances : Type 0
 Distances = List ℤ
 
-abbrev pub distance : Distances → ℕ → ℤ
+unfoldable pub distance : Distances → ℕ → ℤ
 distance distances RefIdx = slice_index_or distances RefIdx (pos 0)
 
 -- ---- scaling
@@ -36,7 +36,7 @@ scaled_component factor mv =
     clip16 (int_signum (factor *ℤ mv) *ℤ pos ((unsigned_abs (factor *ℤ mv) + 127) / 256))
 
 -- a vector over one distance, drawn out or in to another
-abbrev pub scaled : ℤ → ℤ → Mv → Mv
+unfoldable pub scaled : ℤ → ℤ → Mv → Mv
 scaled from to mv = record {
   x = scaled_component (distScaleFactor (cut to) (cut from)) mv.x;
   y = scaled_component (distScaleFactor (cut to) (cut from)) mv.y;

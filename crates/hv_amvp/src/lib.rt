@@ -1,0 +1,9 @@
+//! Prediction of luma motion vectors by the units around (8.5.3.2.6, 8.5.3.2.7). Nothing here takes
+//! memory.
+#![tactic(auto)]
+
+mod choice;
+mod scaling;
+
+pub use choice::candidates_by;
+pub use scaling::Distances;

@@ -1,4 +1,5 @@
 pub mod DecodedLemmas
 pub mod PictureLemmas
 pub mod SeenLemmas
+pub mod SeenNodeLemmas
 mod WorkedReconstructions

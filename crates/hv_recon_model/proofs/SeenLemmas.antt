@@ -7,7 +7,7 @@ use Rattle.std.proofs.lemmas.Bool.{cases_lt, and_parts, leb-true, ltb-true, lt-l
 use Rattle.std.proofs.lemmas.Bool.Decides.{nat_tests}
 use Rattle.hv_lemmas.proofs.ListLemmas.{tabulate-same}
 use Rattle.hv_recon_model.specs.Reconstruction.{Component, Square, square_at, left_of, above_of, neighbours, is_in, with_block}
-use Rattle.hv_recon_model.specs.SeenSamples.{Spot, SamplesAround, by_rows, comes_before, sample_at_left, sample_above, sample_inside, sample_around, is_behind_edges, is_in_picture, look_around, look_picture, IsSeen, seen_line}
+use Rattle.hv_recon_model.specs.SeenSamples.{Spot, SamplesAround, by_rows, comes_before, sample_at_left, sample_above, sample_inside, sample_around, is_behind_edges, is_in_picture, look_around, look_picture, IsSeen, seen_line, IsPut}
 
 -- ---- the neighbours
 
@@ -62,13 +62,7 @@ neighbours_seen s around own address samples x y log2 fits seen =
 
 -- ---- behind the block
 
--- These samples of a component are those before with a block among them. It is the part of the
--- coding tree block that comes behind one address and before the other.
-pub record IsPut
-    (side x y log2 : ℕ) (block old new : List ℕ) : Type 0 where
-  pub sample : (p q : ℕ) → p < side → q < side →
-      by_rows side new p q ≡ with_block (by_rows side old) (square_at x y log2) block p q
-
+-- the block is the part of the coding tree block that comes behind one address and before the other
 pub record ComesBetween (side x y log2 address next : ℕ) : Type 0 where
   pub sample : (p q : ℕ) → p < side → q < side →
       comes_before side next p q ≡ is_in (square_at x y log2) p q || comes_before side address p q

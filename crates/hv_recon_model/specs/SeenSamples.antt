@@ -3,7 +3,7 @@
 use Rattle.std.specs.Prelude.{◌≡◌, ℕ, ◌+◌, ◌-◌, ◌*◌, ◌/◌, ◌^◌, ◌<◌, ◌≤◌, cond, nat_eq, nat_lt, nat_le, ◌&&◌, Bool, List, ◌++◌, slice_get, Option, Some, None}
 use Rattle.hv_lemmas.specs.Lists.{tabulate}
 use Rattle.hv_unit_model.specs.Sites.{Site, ctb_side, ctb_column, ctb_row, address_of}
-use Rattle.hv_recon_model.specs.Reconstruction.{Component}
+use Rattle.hv_recon_model.specs.Reconstruction.{Component, square_at, with_block}
 
 -- ---- a block in one colour component
 
@@ -135,3 +135,9 @@ pub record IsSeen
   pub sample :
       (x y : ℕ) → s.side ≤ x + 1 → x < 3 * s.side → s.side ≤ y + 1 → y < 3 * s.side →
       look_picture s samples x y ≡ look_around s around own address x y
+
+-- these samples are those before with a block of 2^log2 columns and rows in this column and row
+pub record IsPut (side x y log2 : ℕ) (block old new : List ℕ) : Type 0 where
+  pub sample :
+      (p q : ℕ) → p < side → q < side →
+      by_rows side new p q ≡ with_block (by_rows side old) (square_at x y log2) block p q

@@ -1,2 +1,4 @@
+mod FilledLineLemmas
 mod LineLemmas
+mod PutRowLemmas
 mod SumLemmas

@@ -1,1 +1,4 @@
 pub mod Leaves
+pub mod Rows
+pub mod Units
+pub mod Views

@@ -2,6 +2,11 @@
 //! takes memory, and each equals its definition.
 #![tactic(auto)]
 
+mod around;
+mod put;
+mod sizes;
 mod transform_block;
+mod unit;
+mod view;
 
 pub use transform_block::rebuild_intra;

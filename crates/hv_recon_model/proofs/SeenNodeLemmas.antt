@@ -8,20 +8,14 @@ use Rattle.std.proofs.Math.Nat.{pow-suc}
 use Rattle.hv_lemmas.specs.Booleans.{same}
 use Rattle.hv_lemmas.proofs.BooleanLemmas.{or_right}
 use Rattle.hv_lemmas.proofs.ComputedLemmas.{all_below, holds_below}
-use Rattle.hv_sample_model.specs.IntraPrediction.{predicted, substituted}
-use Rattle.hv_sample_model.specs.InverseTransform.{residual}
 use Rattle.hv_unit_model.specs.Trees.{Intra}
 use Rattle.hv_unit_model.specs.Sites.{address_of, column_of, row_of, squares}
 use Rattle.hv_unit_model.proofs.NodeLemmas.{IsNode}
 use Rattle.hv_recon_model.specs.Reconstruction.{Component, square_at, is_in, neighbours, with_block, decoded_block, sum_of}
-use Rattle.hv_recon_model.specs.SeenSamples.{Spot, SamplesAround, comes_before, IsSeen, IsPut, seen_line}
+use Rattle.hv_recon_model.specs.SeenSamples.{Spot, SamplesAround, comes_before, IsSeen, IsPut, seen_line, seen_block}
 use Rattle.hv_recon_model.proofs.SeenLemmas.{FitsIn, FitsInPicture, ComesBetween, neighbours_seen, seen_behind}
 
 -- ---- what is decoded behind a transform block
-
-abbrev pub seen_block : ℕ → ℕ → Bool → ℕ → List ℤ → List (Option ℕ) → List ℕ
-seen_block log2 mode is_luma qp levels line =
-    sum_of (predicted log2 mode is_luma (substituted line)) (residual log2 qp levels)
 
 pub block_behind : (s : Spot) (around : SamplesAround) (old new : List ℕ)
     (address next x y log2 mode : ℕ) (is_luma : Bool) (qp : ℕ) (levels : List ℤ)

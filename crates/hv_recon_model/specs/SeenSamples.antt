@@ -1,9 +1,11 @@
 -- The samples that are seen from a coding tree block while it is decoded: its own, so far as they
 -- are decoded, and those of the blocks around it, by their last columns and rows.
-use Rattle.std.specs.Prelude.{◌≡◌, ℕ, ◌+◌, ◌-◌, ◌*◌, ◌/◌, ◌^◌, ◌<◌, ◌≤◌, cond, nat_eq, nat_lt, nat_le, ◌&&◌, Bool, List, ◌++◌, slice_get, Option, Some, None}
+use Rattle.std.specs.Prelude.{◌≡◌, ℕ, ◌+◌, ◌-◌, ◌*◌, ◌/◌, ◌^◌, ◌<◌, ◌≤◌, cond, nat_eq, nat_lt, nat_le, ◌&&◌, Bool, List, ◌++◌, slice_get, Option, Some, None, ℤ}
 use Rattle.hv_lemmas.specs.Lists.{tabulate}
+use Rattle.hv_sample_model.specs.IntraPrediction.{predicted, substituted}
+use Rattle.hv_sample_model.specs.InverseTransform.{residual}
 use Rattle.hv_unit_model.specs.Sites.{Site, ctb_side, ctb_column, ctb_row, address_of}
-use Rattle.hv_recon_model.specs.Reconstruction.{Component, square_at, with_block}
+use Rattle.hv_recon_model.specs.Reconstruction.{Component, square_at, with_block, sum_of}
 
 -- ---- a block in one colour component
 
@@ -141,3 +143,8 @@ pub record IsPut (side x y log2 : ℕ) (block old new : List ℕ) : Type 0 where
   pub sample :
       (p q : ℕ) → p < side → q < side →
       by_rows side new p q ≡ with_block (by_rows side old) (square_at x y log2) block p q
+
+-- an intra block with these levels, by rows, and this quantiser, from its neighbours
+abbrev pub seen_block : ℕ → ℕ → Bool → ℕ → List ℤ → List (Option ℕ) → List ℕ
+seen_block log2 mode is_luma qp levels line =
+    sum_of (predicted log2 mode is_luma (substituted line)) (residual log2 qp levels)

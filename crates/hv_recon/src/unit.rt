@@ -1,0 +1,153 @@
+//! A transform unit: its block of luma, and those of Cb and Cr.
+
+ghost use Rattle.std.specs.Prelude.{◌≡◌, ◌+◌, ◌*◌, ◌^◌, ◌<◌, ◌≤◌, length};
+ghost use Rattle.hv_unit_model.specs.Sites.{column_of, row_of};
+ghost use Rattle.hv_unit_model.specs.Plans.{part};
+ghost use Rattle.hv_recon_model.specs.SeenSamples.{IsPut, luma_spot, chroma_spot, seen_line, seen_block};
+ghost use Rattle.hv_recon.specs.Leaves.{edges_in, luma_around, cb_around, cr_around};
+ghost use Rattle.hv_recon.specs.Units.{IsUnitPut};
+ghost use Rattle.hv_recon.specs.Views.{edges_of, around_of, spot_of};
+
+use crate::around::{SampleEdges, SamplesAround, View};
+use crate::put::put_block;
+use crate::sizes::{area_of, side_of};
+use crate::transform_block::rebuild_intra;
+use hv_block::{CtbPlan, Edges, Neighbours, Samples};
+use hv_plan::Place;
+use hv_tables::chroma_qp;
+
+fn luma_edges(edges: &Option<Edges>) -> Option<SampleEdges<'_>>
+    ensures { edges_of result ≡ edges_in (λ e. e.right_luma) (λ e. e.bottom_luma) edges.now }
+{
+    match edges {
+        None => None,
+        Some(e) => Some(SampleEdges {
+            right: &e.right_luma,
+            bottom: &e.bottom_luma,
+        }),
+    }
+}
+
+fn cb_edges(edges: &Option<Edges>) -> Option<SampleEdges<'_>>
+    ensures { edges_of result ≡ edges_in (λ e. e.right_cb) (λ e. e.bottom_cb) edges.now }
+{
+    match edges {
+        None => None,
+        Some(e) => Some(SampleEdges {
+            right: &e.right_cb,
+            bottom: &e.bottom_cb,
+        }),
+    }
+}
+
+fn cr_edges(edges: &Option<Edges>) -> Option<SampleEdges<'_>>
+    ensures { edges_of result ≡ edges_in (λ e. e.right_cr) (λ e. e.bottom_cr) edges.now }
+{
+    match edges {
+        None => None,
+        Some(e) => Some(SampleEdges {
+            right: &e.right_cr,
+            bottom: &e.bottom_cr,
+        }),
+    }
+}
+
+/// A block of luma.
+fn luma_view(place: Place, near: &Neighbours) -> View<'_>
+    requires { 0 < place.width }
+    ensures spot { spot_of result ≡ luma_spot place }
+    ensures around { around_of result.around ≡ luma_around near.now }
+{
+    let across = place.width.div_ceil(64);
+    View {
+        side: 64,
+        left: 64 * (place.index % across) as usize,
+        top: 64 * (place.index / across) as usize,
+        width: place.width as usize,
+        height: place.height as usize,
+        around: SamplesAround {
+            left: luma_edges(&near.left),
+            above_left: luma_edges(&near.above_left),
+            above: luma_edges(&near.above),
+            above_right: luma_edges(&near.above_right),
+        },
+    }
+}
+
+/// A block of Cb or Cr, with what lies around it.
+fn chroma_view(place: Place, around: SamplesAround<'_>) -> View<'_>
+    requires { 0 < place.width }
+    ensures spot { spot_of result ≡ chroma_spot place }
+    ensures around { result.around ≡ around.entry }
+{
+    let across = place.width.div_ceil(64);
+    View {
+        side: 32,
+        left: 32 * (place.index % across) as usize,
+        top: 32 * (place.index / across) as usize,
+        width: (place.width / 2) as usize,
+        height: (place.height / 2) as usize,
+        around,
+    }
+}
+
+fn cb_around(near: &Neighbours) -> SamplesAround<'_>
+    ensures { around_of result ≡ cb_around near.now }
+{
+    SamplesAround {
+        left: cb_edges(&near.left),
+        above_left: cb_edges(&near.above_left),
+        above: cb_edges(&near.above),
+        above_right: cb_edges(&near.above_right),
+    }
+}
+
+fn cr_around(near: &Neighbours) -> SamplesAround<'_>
+    ensures { around_of result ≡ cr_around near.now }
+{
+    SamplesAround {
+        left: cr_edges(&near.left),
+        above_left: cr_edges(&near.above_left),
+        above: cr_edges(&near.above),
+        above_right: cr_edges(&near.above_right),
+    }
+}
+
+/// How a transform block is predicted and scaled, and where it lies in a coding tree block: its
+/// address, its first column and row, and its side as a power of 2.
+#[derive(Clone, Copy)]
+pub struct Spot {
+    pub address: usize,
+    pub x: usize,
+    pub y: usize,
+    pub log2: u8,
+    pub mode: u8,
+    pub luma: bool,
+    pub qp: u8,
+    pub ghost least: { 2 ≤ log2 },
+    pub ghost most: { log2 ≤ 5 },
+    pub ghost mode_known: { mode ≤ 34 },
+    pub ghost quantiser: { qp ≤ 51 },
+}
+
+/// Rebuilds a transform block among the samples of a coding tree block, from those before its
+/// address and around.
+fn rebuild_block(view: &View<'_>, spot: Spot, levels: &[i16], samples: &mut [u8])
+    requires across { spot.x + 2 ^ spot.log2 ≤ view.now.side }
+    requires down { spot.y + 2 ^ spot.log2 ≤ view.now.side }
+    requires levels { length levels.now ≡ 2 ^ spot.log2 * 2 ^ spot.log2 }
+    requires whole { length samples.old ≡ view.now.side * view.now.side }
+    ensures put { IsPut view.now.side spot.x spot.y spot.log2
+        (seen_block spot.log2 spot.mode spot.luma spot.qp levels.now
+        (seen_line (spot_of view.now) (around_of view.now.around) samples.old spot.address spot.x
+        spot.y spot.log2)) samples.old samples.new }
+    ensures count { length samples.new ≡ view.now.side * view.now.side }
+{
+    let count = area_of(spot.log2);
+    let line = view.line(samples, spot.address, spot.x, spot.y, spot.log2);
+    let known = &line[..4 * side_of(spot.log2) + 1];
+    let mut room = [0; 1024];
+    let block = &mut room[..count];
+    rebuild_intra(known, levels, spot.log2, spot.qp, spot.mode, spot.luma, block);
+    put_block(view.side, spot.x, spot.y, spot.log2, block, samples);
+}

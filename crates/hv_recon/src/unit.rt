@@ -151,3 +151,51 @@ fn rebuild_block(view: &View<'_>, spot: Spot, levels: &[i16], samples: &mut [u8]
     rebuild_intra(known, levels, spot.log2, spot.qp, spot.mode, spot.luma, block);
     put_block(view.side, spot.x, spot.y, spot.log2, block, samples);
 }
+
+/// Rebuilds the block of luma of a transform unit of this size at this address.
+fn rebuild_luma(view: &View<'_>, spot: Spot, levels: &[i16], out: &mut Samples)
+    requires side { view.now.side ≡ 64 }
+    requires across { spot.x + 2 ^ spot.log2 ≤ 64 }
+    requires down { spot.y + 2 ^ spot.log2 ≤ 64 }
+    requires levels { length levels.now ≡ 2 ^ spot.log2 * 2 ^ spot.log2 }
+    ensures put { IsPut 64 spot.x spot.y spot.log2
+        (seen_block spot.log2 spot.mode spot.luma spot.qp levels.now
+        (seen_line (spot_of view.now) (around_of view.now.around) out.old.luma spot.address spot.x
+        spot.y spot.log2)) out.old.luma out.new.luma }
+    ensures cb { out.new.cb ≡ out.old.cb }
+    ensures cr { out.new.cr ≡ out.old.cr }
+{
+    rebuild_block(view, spot, levels, out.luma_mut());
+}
+
+/// Rebuilds its block of Cb.
+fn rebuild_cb(view: &View<'_>, spot: Spot, levels: &[i16], out: &mut Samples)
+    requires side { view.now.side ≡ 32 }
+    requires across { spot.x + 2 ^ spot.log2 ≤ 32 }
+    requires down { spot.y + 2 ^ spot.log2 ≤ 32 }
+    requires levels { length levels.now ≡ 2 ^ spot.log2 * 2 ^ spot.log2 }
+    ensures put { IsPut 32 spot.x spot.y spot.log2
+        (seen_block spot.log2 spot.mode spot.luma spot.qp levels.now
+        (seen_line (spot_of view.now) (around_of view.now.around) out.old.cb spot.address spot.x
+        spot.y spot.log2)) out.old.cb out.new.cb }
+    ensures luma { out.new.luma ≡ out.old.luma }
+    ensures cr { out.new.cr ≡ out.old.cr }
+{
+    rebuild_block(view, spot, levels, out.cb_mut());
+}
+
+/// Rebuilds its block of Cr.
+fn rebuild_cr(view: &View<'_>, spot: Spot, levels: &[i16], out: &mut Samples)
+    requires side { view.now.side ≡ 32 }
+    requires across { spot.x + 2 ^ spot.log2 ≤ 32 }
+    requires down { spot.y + 2 ^ spot.log2 ≤ 32 }
+    requires levels { length levels.now ≡ 2 ^ spot.log2 * 2 ^ spot.log2 }
+    ensures put { IsPut 32 spot.x spot.y spot.log2
+        (seen_block spot.log2 spot.mode spot.luma spot.qp levels.now
+        (seen_line (spot_of view.now) (around_of view.now.around) out.old.cr spot.address spot.x
+        spot.y spot.log2)) out.old.cr out.new.cr }
+    ensures luma { out.new.luma ≡ out.old.luma }
+    ensures cb { out.new.cb ≡ out.old.cb }
+{
+    rebuild_block(view, spot, levels, out.cr_mut());
+}

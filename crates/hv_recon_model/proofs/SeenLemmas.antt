@@ -64,6 +64,8 @@ neighbours_seen s around own address samples x y log2 fits seen =
 
 -- the block is the part of the coding tree block that comes behind one address and before the other
 pub record ComesBetween (side x y log2 address next : ℕ) : Type 0 where
+  pub apart : (p q : ℕ) → p < side → q < side → comes_before side address p q ≡ true →
+      is_in (square_at x y log2) p q ≡ false
   pub sample : (p q : ℕ) → p < side → q < side →
       comes_before side next p q ≡ is_in (square_at x y log2) p q || comes_before side address p q
 
@@ -320,3 +322,31 @@ seen_behind s around block old new address next x y log2 samples fits inside bet
           put seen i k (omega (arith, from, across)) (omega (arith, under, down))))
     ]
   ]
+
+-- ---- the samples that stay
+
+or_none : (a b : Bool) → a || b ≡ false → a ≡ false
+or_none true b e = absurd cc
+or_none false b e = refl
+
+not_put : (side x y log2 : ℕ) (block old new : List ℕ) (p q : ℕ) →
+    IsPut side x y log2 block old new → p < side → q < side →
+    is_in (square_at x y log2) p q ≡ false → by_rows side new p q ≡ by_rows side old p q
+not_put side x y log2 block old new p q put across down off =
+    put.sample p q across down ∙
+    ap (λ t. cond t (in_block x y log2 block p q) (by_rows side old p q)) off
+
+pub before_stays : (side x y log2 address next : ℕ) (block old new : List ℕ) (p q : ℕ) →
+    ComesBetween side x y log2 address next → IsPut side x y log2 block old new → p < side →
+    q < side → comes_before side address p q ≡ true → by_rows side new p q ≡ by_rows side old p q
+before_stays side x y log2 address next block old new p q between put across down before =
+    not_put side x y log2 block old new p q put across down
+    (between.apart p q across down before)
+
+pub behind_stays : (side x y log2 address next : ℕ) (block old new : List ℕ) (p q : ℕ) →
+    ComesBetween side x y log2 address next → IsPut side x y log2 block old new → p < side →
+    q < side → comes_before side next p q ≡ false → by_rows side new p q ≡ by_rows side old p q
+behind_stays side x y log2 address next block old new p q between put across down behind =
+    not_put side x y log2 block old new p q put across down
+    (or_none (is_in (square_at x y log2) p q) (comes_before side address p q)
+    (sym (between.sample p q across down) ∙ behind))

@@ -2,7 +2,7 @@
 -- and what is decoded behind them.
 use Rattle.std.proofs.Common.{◌≡◌, ℕ, zero, suc, ◌+◌, ◌-◌, ◌*◌, ◌/◌, ◌%◌, ◌^◌, ◌<◌, ◌≤◌, Bool, true, false, List, refl, sym, ap, ap₂, subst, ◌∙◌, arith}
 use Rattle.std.specs.Prelude.{nat_eq, nat_le, nat_lt, not, ◌&&◌, ◌||◌, Option, Some, ℤ}
-use Rattle.std.proofs.lemmas.Bool.{eq-eqb}
+use Rattle.std.proofs.lemmas.Bool.{and_parts, eq-eqb, leb-true}
 use Rattle.std.proofs.lemmas.Bool.Decides.{nat_tests}
 use Rattle.std.proofs.Math.Nat.{pow-suc}
 use Rattle.hv_lemmas.specs.Booleans.{same}
@@ -50,7 +50,8 @@ is_in_node size address column row =
 between_test : ℕ → ℕ → ℕ → ℕ → Bool
 between_test size address column row =
     same (nat_lt (address_of column row) (address + squares size))
-    (is_in_node size address column row || nat_lt (address_of column row) address)
+    (is_in_node size address column row || nat_lt (address_of column row) address) &&
+    not (nat_lt (address_of column row) address && is_in_node size address column row)
 
 node_test : ℕ → ℕ → Bool
 node_test size address =
@@ -84,20 +85,75 @@ test_of (suc zero) few = nodes_of_1
 test_of (suc (suc zero)) few = nodes_of_2
 test_of (suc (suc (suc size))) few = absurd (omega (arith, few))
 
-between_squares : (size address column row : ℕ) → size ≤ 2 → IsNode size address → column < 8 →
-    row < 8 →
-    nat_lt (address_of column row) (address + squares size) ≡
-    is_in_node size address column row || nat_lt (address_of column row) address
-unfolding nodes_of_size node_test between_test
-between_squares size address column row few node across down =
+is_between : (size address column row : ℕ) → size ≤ 2 → IsNode size address → column < 8 →
+    row < 8 → between_test size address column row ≡ true
+unfolding nodes_of_size node_test
+is_between size address column row few node across down =
     let here = holds_below 64 (node_test size) (test_of size few) address node.inside in
     let even = eq-eqb (address % squares size) 0 node.even in
     let all = or_right (not (nat_eq (address % squares size) 0)) _ here (rw even refl) in
     let in_column = holds_below 8 (λ c. all_below 8 (λ r. between_test size address c r)) all column
     across in
-    same_is _ _ (holds_below 8 (λ r. between_test size address column r) in_column row down)
+    holds_below 8 (λ r. between_test size address column r) in_column row down
+
+between_squares : (size address column row : ℕ) → size ≤ 2 → IsNode size address → column < 8 →
+    row < 8 →
+    nat_lt (address_of column row) (address + squares size) ≡
+    is_in_node size address column row || nat_lt (address_of column row) address
+unfolding between_test
+between_squares size address column row few node across down =
+    same_is _ _ (and_parts _ _ (is_between size address column row few node across down)).0
+
+not_both : (a b : Bool) → not (a && b) ≡ true → a ≡ true → b ≡ false
+not_both true true h e = absurd cc
+not_both true false h e = refl
+not_both false b h e = absurd cc
+
+apart_squares : (size address column row : ℕ) → size ≤ 2 → IsNode size address → column < 8 →
+    row < 8 → nat_lt (address_of column row) address ≡ true →
+    is_in_node size address column row ≡ false
+unfolding between_test
+apart_squares size address column row few node across down before =
+    not_both _ _ (and_parts _ _ (is_between size address column row few node across down)).1 before
+
+-- where a node ends
+
+end_test : ℕ → ℕ → Bool
+end_test size address =
+    not (nat_eq (address % squares size) 0) ||
+    nat_le (column_of address + 2 ^ size) 8 &&
+    (nat_le (row_of address + 2 ^ size) 8 && nat_le (address + squares size) 64)
+
+ends : all_below 3 (λ size. all_below 64 (λ address. end_test size address)) ≡ true
+unfolding end_test column_of row_of
+ends = refl
+
+pub node_ends : (size address : ℕ) → size ≤ 2 → IsNode size address →
+    (column_of address + 2 ^ size ≤ 8) × (row_of address + 2 ^ size ≤ 8) ×
+    (address + squares size ≤ 64)
+unfolding end_test
+node_ends size address few node =
+    let of_size = holds_below 3 (λ n. all_below 64 (λ a. end_test n a)) ends size
+    (omega (arith, few)) in
+    let here = holds_below 64 (λ a. end_test size a) of_size address node.inside in
+    let even = eq-eqb (address % squares size) 0 node.even in
+    let all = or_right (not (nat_eq (address % squares size) 0)) _ here (rw even refl) in
+    let p = and_parts _ _ all in
+    let q = and_parts _ _ p.1 in
+    (leb-true _ _ p.0, leb-true _ _ q.0, leb-true _ _ q.1)
 
 -- a sample lies in the node's square just where its own square of 8x8 luma samples does
+
+pub power_luma : (size : ℕ) → 2 ^ (size + 3) ≡ 8 * 2 ^ size
+power_luma size =
+    let more : size + 3 ≡ suc (suc (suc size)) = omega arith in
+    ap (λ n. 2 ^ n) more ∙
+    omega (arith, pow-suc 2 size, pow-suc 2 (suc size), pow-suc 2 (suc (suc size)))
+
+pub power_chroma : (size : ℕ) → 2 ^ (size + 2) ≡ 4 * 2 ^ size
+power_chroma size =
+    let more : size + 2 ≡ suc (suc size) = omega arith in
+    ap (λ n. 2 ^ n) more ∙ omega (arith, pow-suc 2 size, pow-suc 2 (suc size))
 
 in_luma : (c r size p q : ℕ) →
     nat_le c (p / 8) && nat_lt (p / 8) (c + 2 ^ size) && nat_le r (q / 8) &&
@@ -105,13 +161,8 @@ in_luma : (c r size p q : ℕ) →
     is_in (square_at (8 * c) (8 * r) (size + 3)) p q
 in_luma c r size p q =
     λ j. at_first j && at_last j && at_top j && at_bottom j where
-  more : size + 3 ≡ suc (suc (suc size))
-  more = omega arith
-
   power : 2 ^ (size + 3) ≡ 8 * 2 ^ size
-  power =
-      ap (λ n. 2 ^ n) more ∙
-      omega (arith, pow-suc 2 size, pow-suc 2 (suc size), pow-suc 2 (suc (suc size)))
+  power = power_luma size
 
   at_first : nat_le c (p / 8) ≡ nat_le (8 * c) p
   at_first = grind (arith, nat_tests)
@@ -131,11 +182,8 @@ in_chroma : (c r size p q : ℕ) →
     is_in (square_at (4 * c) (4 * r) (size + 2)) p q
 in_chroma c r size p q =
     λ j. at_first j && at_last j && at_top j && at_bottom j where
-  more : size + 2 ≡ suc (suc size)
-  more = omega arith
-
   power : 2 ^ (size + 2) ≡ 4 * 2 ^ size
-  power = ap (λ n. 2 ^ n) more ∙ omega (arith, pow-suc 2 size, pow-suc 2 (suc size))
+  power = power_chroma size
 
   at_first : nat_le c (p / 4) ≡ nat_le (4 * c) p
   at_first = grind (arith, nat_tests)
@@ -153,6 +201,10 @@ pub luma_between : (size address : ℕ) → size ≤ 2 → IsNode size address �
     ComesBetween 64 (8 * column_of address) (8 * row_of address) (size + 3) address
     (address + squares size)
 luma_between size address few node = record {
+  apart = λ p q across down before.
+      sym (in_luma (column_of address) (row_of address) size p q) ∙
+      apart_squares size address (p / 8) (q / 8) few node (omega (arith, across))
+      (omega (arith, down)) before;
   sample = λ p q across down.
       between_squares size address (p / 8) (q / 8) few node (omega (arith, across))
       (omega (arith, down)) ∙
@@ -164,6 +216,10 @@ pub chroma_between : (size address : ℕ) → size ≤ 2 → IsNode size address
     ComesBetween 32 (4 * column_of address) (4 * row_of address) (size + 2) address
     (address + squares size)
 chroma_between size address few node = record {
+  apart = λ p q across down before.
+      sym (in_chroma (column_of address) (row_of address) size p q) ∙
+      apart_squares size address (p / 4) (q / 4) few node (omega (arith, across))
+      (omega (arith, down)) before;
   sample = λ p q across down.
       between_squares size address (p / 4) (q / 4) few node (omega (arith, across))
       (omega (arith, down)) ∙

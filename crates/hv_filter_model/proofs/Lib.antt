@@ -1,5 +1,6 @@
 mod JoinedLemmas
 pub mod OffLemmas
+pub mod CostLemmas
 mod WorkedBlocks
 mod WorkedOffsets
 mod WorkedChoices

@@ -5,33 +5,11 @@ use Rattle.hv_lemmas.proofs.ListLemmas.{get_or-tabulate}
 use Rattle.hv_plan.specs.declared.offsets.SaoKind.{SaoKind}
 use Rattle.hv_plan.specs.declared.offsets.SaoKind.TheVariants.{Off, Band, Edge}
 use Rattle.hv_plan.specs.declared.offsets.SaoComponent.{SaoComponent}
-use Rattle.hv_filter_model.specs.Costs.{cheaper, first_least}
 use Rattle.hv_filter_model.specs.SampleAdaptiveOffset.{IsKind, IsBetween, least_offset, most_offset, IsValidComponent, HaveOneType}
 use Rattle.hv_filter_model.specs.OffsetDecision.{Block, Chroma, offset, candidate, luma_choice, band_choice, edge_pair, chroma_cost, chroma_choice}
+use Rattle.hv_filter_model.proofs.CostLemmas.{first_least_keeps, each_append, each_tabulate}
 use Rattle.hv_sao.specs.Prices.{luma_cost, own_cost, off_pair, band_pair}
 use Rattle.hv_sao.proofs.KeyLemmas.{offset_between}
-
-abbrev Each : {A : Type 0} → (A → Type 0) → List A → Type 0
-Each P [] = Unit {0}
-Each P (x ∷ xs) = P x × Each P xs
-
-cond_keeps : {A : Type 0} (P : A → Type 0) (b : Bool) (x y : A) → P x → P y → P (cond b x y)
-cond_keeps P true x y h k = h
-cond_keeps P false x y h k = k
-
-first_least_keeps : {A : Type 0} (P : A → Type 0) (f : A → ℕ) (x : A) (xs : List A) → P x → Each P xs → P (first_least f x xs)
-first_least_keeps P f x [] h each = h
-first_least_keeps P f x (y ∷ xs) h each =
-    first_least_keeps P f (cheaper f x y) xs (cond_keeps P (nat_lt (f y) (f x)) y x each.0 h) each.1
-
-each_tabulate : {A : Type 0} (P : A → Type 0) (n : ℕ) (f : ℕ → A) → ((i : ℕ) → i < n → P (f i)) → Each P (tabulate n f)
-unfolding tabulate
-each_tabulate P zero f h = tt
-each_tabulate P (suc n) f h = (h 0 (omega arith), each_tabulate P n (λ i. f (suc i)) (λ i below. h (suc i) (omega arith)))
-
-each_append : {A : Type 0} (P : A → Type 0) (xs ys : List A) → Each P xs → Each P ys → Each P (xs ++ ys)
-each_append P [] ys h k = k
-each_append P (x ∷ xs) ys h k = (h.0, each_append P xs ys h.1 k)
 
 candidate_valid : (b : Block) (kind : SaoKind) → IsKind kind → IsValidComponent (candidate b kind)
 candidate_valid b kind h = record {

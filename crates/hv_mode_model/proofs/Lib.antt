@@ -1,0 +1,5 @@
+pub mod ChosenDecodedLemmas
+pub mod ValidChoiceLemmas
+mod WorkedChoices
+mod WorkedCosts
+mod WorkedPictures

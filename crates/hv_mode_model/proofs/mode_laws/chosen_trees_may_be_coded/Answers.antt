@@ -1,0 +1,5 @@
+use Rattle.hv_mode_model.proofs.ValidChoiceLemmas.{valid_trees}
+use Rattle.hv_mode_model.proofs.mode_laws.chosen_trees_may_be_coded.Goals as goal
+
+pub returns : goal.returns
+returns c = valid_trees

@@ -1,0 +1,2 @@
+pub mod ModeDecision
+pub mod ModeLaws

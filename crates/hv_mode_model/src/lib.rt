@@ -1,0 +1,11 @@
+//! The encoder's own choice for a coding tree block as a definition, in `specs/`: which nodes are
+//! split, how each coding unit is predicted, and its levels. H.265 leaves it free. The functions
+//! here are empty, and each carries a law of the definition as its contract.
+#![tactic(auto)]
+
+mod mode_laws;
+
+pub use mode_laws::{
+    chosen_nodes_are_decoded, chosen_nodes_may_be_coded, chosen_trees_are_decoded,
+    chosen_trees_may_be_coded, every_chosen_sample_is_decoded,
+};

@@ -1,7 +1,6 @@
 pub mod SideLemmas
 pub mod SmoothedLineLemmas
 pub mod RowLemmas
-pub mod SumLemmas
 pub mod PredictionLemmas
 pub mod StraightModeLemmas
 pub mod ReferenceListLemmas
@@ -12,3 +11,4 @@ pub mod PlanarLemmas
 pub mod SmoothingLaneLemmas
 pub mod TurnLemmas
 pub mod LaneLemmas
+pub mod DcLemmas

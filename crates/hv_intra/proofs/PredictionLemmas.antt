@@ -1,6 +1,7 @@
 -- Predicted blocks.
-use Rattle.std.proofs.Common.{◌≡◌, ℕ, ◌^◌, ◌≤◌, Bool, List, length, refl, ◌∙◌}
-use Rattle.hv_sample_model.specs.IntraPrediction.{filtered, by_mode, predicted}
+use Rattle.std.proofs.Common.{◌≡◌, ℕ, ◌^◌, ◌≤◌, Bool, true, false, List, length, refl, ◌∙◌, cond, leb, not, ◌&&◌}
+use Rattle.std.specs.Prelude.{nat_lt}
+use Rattle.hv_sample_model.specs.IntraPrediction.{filtered, smoothed, intraHorVerDistThres, minDistVerHor, by_mode, predicted}
 use Rattle.hv_intra.specs.Blocks.{HasRows}
 use Rattle.hv_intra.proofs.RowLemmas.{block_is}
 use Rattle.hv_intra.proofs.SideLemmas.{square_of_side}
@@ -14,3 +15,13 @@ unfolding predicted
 predicted_is log2 mode luma line used block least most e count rows =
     block_is log2 (by_mode log2 mode luma used) block (count ∙ square_of_side log2 least most) rows ∙
     rw e refl
+
+-- Intra_DC predicts from the neighbours as they are
+pub dc_unfiltered : (log2 : ℕ) (luma : Bool) (line : List ℕ) → line ≡ filtered log2 1 luma line
+dc_unfiltered log2 false line = refl
+dc_unfiltered log2 true line = go (leb 3 log2)
+  where
+    go : (b : Bool) → line ≡
+        cond (true && b && not true && nat_lt (intraHorVerDistThres log2) (minDistVerHor 1)) (smoothed line) line
+    go true = refl
+    go false = refl

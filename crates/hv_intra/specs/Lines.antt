@@ -21,3 +21,9 @@ all_weighted (before ∷ befores) [] nexts = []
 all_weighted (before ∷ befores) (sample ∷ samples) [] = []
 all_weighted (before ∷ befores) (sample ∷ samples) (next ∷ nexts) =
     weighted before sample next ∷ all_weighted befores samples nexts
+
+-- ---- edges of Intra_DC
+
+-- a sample of an edge, from its neighbour and what is added before the division by 4 (8.4.4.2.5)
+abbrev pub edge_of : ℕ → ℕ → ℕ
+edge_of more neighbour = (neighbour + more) / 4

@@ -1,23 +1,36 @@
-//! Intra_DC.
+//! Intra_DC, in lanes.
+//!
+//! It reads the line itself, and loads each side of the block once: what is written can't change it.
 
-ghost use Rattle.std.specs.Prelude.{◌≡◌, ◌+◌, ◌*◌, ◌/◌, ◌^◌, ◌<◌, ◌≤◌, length};
+ghost use Rattle.std.specs.Prelude.{◌≡◌, ◌+◌, ◌-◌, ◌*◌, ◌/◌, ◌^◌, ◌<◌, ◌≤◌, length, map, slice_index, cond, nat_eq};
+ghost use Rattle.std.specs.Simd.Lanes.{sum_l};
 ghost use Rattle.hv_intra.specs.Blocks.{IsRow, HasRows};
+ghost use Rattle.hv_intra.specs.Lines.{edge_of};
 ghost use Rattle.hv_sample_model.specs.IntraPrediction.{dc, dcVal, edged};
 
 use crate::neighbours::Neighbours;
+use std::simd::prelude::*;
+
+/// The sum of the samples.
+#[inline(always)]
+fn total<const N: usize>(samples: Simd<u8, N>) -> u16
+    requires { N ≤ 32 }
+    ensures value { result ≡ sum_l samples.entry }
+    ensures most { result ≤ 255 * N }
+{
+    samples.cast::<u16>().strict_reduce_sum()
+}
 
 /// dcVal (8.4.4.2.5): the mean of the neighbours beside the block, a half rounded up.
 #[inline(always)]
-#[tactic(auto, using(crate::proofs::SumLemmas::total_more, crate::proofs::SumLemmas::total_of_none))]
-fn mean(neighbours: Neighbours<'_>) -> u8
+fn mean<const N: usize>(neighbours: Neighbours<'_>) -> u8
+    requires side { N ≡ 2 ^ neighbours.side.log2 }
+    requires most { N ≤ 32 }
     ensures { result ≡ dcVal neighbours.entry.side.log2 neighbours.entry.line.now }
 {
-    let n = neighbours.side.count();
-    let mut sum = 0;
-    for i in 0..n {
-        sum += u16::from(neighbours.above(i + 1)) + u16::from(neighbours.left(i + 1));
-    }
-    ((sum + n as u16) >> (neighbours.side.log2 + 1)) as u8
+    let above = Simd::<u8, N>::from_slice(&neighbours.line[2 * N + 1..3 * N + 1]);
+    let left = Simd::<u8, N>::from_slice(&neighbours.line[N..2 * N]);
+    ((total(above) + total(left) + N as u16) >> (neighbours.side.log2 + 1)) as u8
 }
 
 /// The corner of a block whose edges are smoothed, between its two neighbours.
@@ -28,65 +41,110 @@ fn corner(left: u8, value: u8, above: u8) -> u8
     ((u16::from(left) + 2 * u16::from(value) + u16::from(above) + 2) / 4) as u8
 }
 
-/// A sample of an edge that is smoothed, beside its neighbour.
+/// What is added to a neighbour before the division by 4.
 #[inline(always)]
-fn edge(neighbour: u8, value: u8) -> u8
-    ensures { result ≡ (neighbour + 3 * value + 2) / 4 }
+fn weighted(value: u8) -> u16
+    ensures { result ≡ 3 * value + 2 }
 {
-    ((u16::from(neighbour) + 3 * u16::from(value) + 2) / 4) as u8
+    3 * u16::from(value) + 2
+}
+
+/// The samples of an edge that is smoothed, beside its neighbours.
+#[inline(always)]
+fn edges<const N: usize>(neighbours: Simd<u8, N>, more: u16) -> Simd<u8, N>
+    requires { more ≤ 767 }
+    ensures { result ≡ map (edge_of more) neighbours.entry }
+{
+    ((neighbours.cast::<u16>() + Simd::<u16, N>::splat(more)) >> Simd::<u16, N>::splat(2)).cast::<
+        u8,
+    >()
 }
 
 /// The upper row of a block whose edges are smoothed.
 #[inline(always)]
-fn fill_upper_row(neighbours: Neighbours<'_>, value: u8, row: &mut [u8])
-    requires { length row.old ≡ 2 ^ neighbours.side.log2 }
-    ensures { IsRow (2 ^ neighbours.entry.side.log2)
-        (λ x. edged value neighbours.entry.side.log2 neighbours.entry.line.now x 0) row.new }
+fn fill_upper_row<const N: usize>(neighbours: Neighbours<'_>, value: u8, row: &mut [u8])
+    requires side { N ≡ 2 ^ neighbours.side.log2 }
+    requires room { length row.old ≡ N }
+    ensures { IsRow N (λ x. edged value neighbours.entry.side.log2 neighbours.entry.line.now x 0) row.new }
 {
-    for x in 0..neighbours.side.count() {
-        row[x] = edge(neighbours.above(x + 1), value);
-    }
+    let above = Simd::<u8, N>::from_slice(&neighbours.line[2 * N + 1..3 * N + 1]);
+    edges(above, weighted(value)).copy_to_slice(row);
     row[0] = corner(neighbours.left(1), value, neighbours.above(1));
 }
 
-/// A row below it.
+/// The samples of the left edge of such a block, from the lowest upwards.
 #[inline(always)]
-fn fill_lower_row(neighbours: Neighbours<'_>, value: u8, y: usize, row: &mut [u8])
-    requires lower { 0 < y }
-    requires row { y < 2 ^ neighbours.side.log2 }
-    requires room { length row.old ≡ 2 ^ neighbours.side.log2 }
-    ensures { IsRow (2 ^ neighbours.entry.side.log2)
-        (λ x. edged value neighbours.entry.side.log2 neighbours.entry.line.now x y) row.new }
+fn fill_left_edge<const N: usize>(neighbours: Neighbours<'_>, value: u8, out: &mut [u8; N])
+    requires { N ≡ 2 ^ neighbours.side.log2 }
+    ensures { IsRow N (λ i. edge_of (3 * value + 2) (slice_index neighbours.entry.line.now (N + i))) out.new }
 {
-    row.fill(value);
-    row[0] = edge(neighbours.left(y + 1), value);
+    let left = Simd::<u8, N>::from_slice(&neighbours.line[N..2 * N]);
+    edges(left, weighted(value)).copy_to_slice(&mut out[..]);
+}
+
+/// A row below the first: its value behind a sample of the edge.
+#[inline(always)]
+fn fill_lower_row<const N: usize>(edge: u8, value: u8, row: &mut [u8])
+    requires some { 1 ≤ N }
+    requires most { N ≤ 32 }
+    requires room { length row.old ≡ N }
+    ensures { IsRow N (λ x. cond (nat_eq x 0) edge value) row.new }
+{
+    Simd::<u8, N>::splat(value).copy_to_slice(row);
+    row[0] = edge;
 }
 
 /// A row of a block whose edges are smoothed.
 #[inline(always)]
-fn fill_row(neighbours: Neighbours<'_>, value: u8, y: usize, row: &mut [u8])
-    requires row { y < 2 ^ neighbours.side.log2 }
-    requires room { length row.old ≡ 2 ^ neighbours.side.log2 }
-    ensures { IsRow (2 ^ neighbours.entry.side.log2)
-        (λ x. edged value neighbours.entry.side.log2 neighbours.entry.line.now x y) row.new }
+fn fill_row<const N: usize>(
+    neighbours: Neighbours<'_>,
+    value: u8,
+    left_edge: &[u8; N],
+    y: usize,
+    row: &mut [u8],
+)
+    requires side { N ≡ 2 ^ neighbours.side.log2 }
+    requires most { N ≤ 32 }
+    requires left_edge { IsRow N (λ i. edge_of (3 * value + 2) (slice_index neighbours.line.now (N + i))) left_edge.now }
+    requires row { y < N }
+    requires room { length row.old ≡ N }
+    ensures { IsRow N (λ x. edged value neighbours.entry.side.log2 neighbours.entry.line.now x y) row.new }
 {
     if y == 0 {
-        fill_upper_row(neighbours, value, row);
+        fill_upper_row::<N>(neighbours, value, row);
     } else {
-        fill_lower_row(neighbours, value, y, row);
+        fill_lower_row::<N>(left_edge[N - 1 - y], value, row);
     }
 }
 
 /// A block whose edges are smoothed.
 #[inline(always)]
-fn fill_with_edges(neighbours: Neighbours<'_>, value: u8, out: &mut [u8])
-    requires { length out.old ≡ 2 ^ neighbours.side.log2 * 2 ^ neighbours.side.log2 }
-    ensures { HasRows (2 ^ neighbours.entry.side.log2) (2 ^ neighbours.entry.side.log2)
-        (edged value neighbours.entry.side.log2 neighbours.entry.line.now) out.new }
+fn fill_with_edges<const N: usize>(neighbours: Neighbours<'_>, value: u8, out: &mut [u8])
+    requires side { N ≡ 2 ^ neighbours.side.log2 }
+    requires most { N ≤ 32 }
+    requires room { length out.old ≡ N * N }
+    ensures { HasRows N N (edged value neighbours.entry.side.log2 neighbours.entry.line.now) out.new }
 {
-    let n = neighbours.side.count();
-    for y in 0..n {
-        fill_row(neighbours, value, y, &mut out[y * n..y * n + n]);
+    let mut left_edge = [0; N];
+    fill_left_edge(neighbours, value, &mut left_edge);
+    for y in 0..N {
+        fill_row(neighbours, value, &left_edge, y, &mut out[y * N..y * N + N]);
+    }
+}
+
+/// A block of N columns and rows.
+#[inline(always)]
+fn fill_block<const N: usize>(neighbours: Neighbours<'_>, luma: bool, out: &mut [u8])
+    requires side { N ≡ 2 ^ neighbours.side.log2 }
+    requires most { N ≤ 32 }
+    requires room { length out.old ≡ N * N }
+    ensures { HasRows N N (dc neighbours.entry.side.log2 luma neighbours.entry.line.now) out.new }
+{
+    let value = mean::<N>(neighbours);
+    if luma && neighbours.side.log2 < 5 {
+        fill_with_edges::<N>(neighbours, value, out);
+    } else {
+        out.fill(value);
     }
 }
 
@@ -97,10 +155,10 @@ pub(crate) fn predict_dc(neighbours: Neighbours<'_>, luma: bool, out: &mut [u8])
     ensures { HasRows (2 ^ neighbours.entry.side.log2) (2 ^ neighbours.entry.side.log2)
         (dc neighbours.entry.side.log2 luma neighbours.entry.line.now) out.new }
 {
-    let value = mean(neighbours);
-    if luma && neighbours.side.log2 < 5 {
-        fill_with_edges(neighbours, value, out);
-    } else {
-        out.fill(value);
+    match neighbours.side.log2 {
+        2 => fill_block::<4>(neighbours, luma, out),
+        3 => fill_block::<8>(neighbours, luma, out),
+        4 => fill_block::<16>(neighbours, luma, out),
+        _ => fill_block::<32>(neighbours, luma, out),
     }
 }

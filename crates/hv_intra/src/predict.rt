@@ -1,6 +1,6 @@
 //! Prediction of a block.
 
-ghost use Rattle.std.specs.Prelude.{◌≡◌, ◌+◌, ◌*◌, ◌^◌, ◌≤◌, length};
+ghost use Rattle.std.specs.Prelude.{◌≡◌, ◌≢◌, ◌+◌, ◌*◌, ◌^◌, ◌≤◌, length};
 ghost use Rattle.hv_intra.specs.Blocks.{HasRows};
 ghost use Rattle.hv_sample_model.specs.IntraPrediction.{angular, by_mode, predicted};
 
@@ -32,27 +32,26 @@ fn predict_angular(neighbours: Neighbours<'_>, mode: AngularMode, luma: bool, ou
     }
 }
 
-/// A mode from the neighbours that it predicts from.
+/// Intra_Planar or an angular mode, from the neighbours that it predicts from.
 #[inline(always)]
-fn predict_by_mode(neighbours: Neighbours<'_>, mode: u8, luma: bool, out: &mut [u8])
+fn predict_from_filtered(neighbours: Neighbours<'_>, mode: u8, luma: bool, out: &mut [u8])
     requires mode { mode ≤ 34 }
+    requires other { mode ≢ 1 }
     requires room { length out.old ≡ 2 ^ neighbours.side.log2 * 2 ^ neighbours.side.log2 }
     ensures { HasRows (2 ^ neighbours.entry.side.log2) (2 ^ neighbours.entry.side.log2)
         (by_mode neighbours.entry.side.log2 mode luma neighbours.entry.line.now) out.new }
 {
     if mode == 0 {
         predict_planar(neighbours, out);
-    } else if mode == 1 {
-        predict_dc(neighbours, luma, out);
     } else {
         predict_angular(neighbours, AngularMode { number: mode }, luma, out);
     }
 }
 
 /// A block of 2^LOG2 columns and rows, from COUNT neighbours. It isn't inlined, so that all its
-/// loops are made for its side: the compiler joins calls that differ in a number alone. The
-/// neighbours are copied even where they aren't filtered, so that the loops read an array of known
-/// length that can't be the block.
+/// loops are made for its side: the compiler joins calls that differ in a number alone. But for DC
+/// the neighbours are copied even where they aren't filtered, so that the loops read an array of
+/// known length that can't be the block.
 #[inline(never)]
 fn predict_side<const LOG2: u8, const COUNT: usize>(
     line: &[u8],
@@ -69,13 +68,18 @@ fn predict_side<const LOG2: u8, const COUNT: usize>(
     ensures { out.new ≡ predicted LOG2 mode luma line.now }
 {
     let side = Side { log2: LOG2 };
-    let mut filtered = [0; COUNT];
-    fill_filtered(Neighbours { side, line }, mode, luma, &mut filtered);
-    let neighbours = Neighbours {
-        side,
-        line: &filtered,
-    };
-    predict_by_mode(neighbours, mode, luma, out);
+    let neighbours = Neighbours { side, line };
+    if mode == 1 {
+        predict_dc(neighbours, luma, out);
+    } else {
+        let mut filtered = [0; COUNT];
+        fill_filtered(neighbours, mode, luma, &mut filtered);
+        let neighbours = Neighbours {
+            side,
+            line: &filtered,
+        };
+        predict_from_filtered(neighbours, mode, luma, out);
+    }
 }
 
 /// Predicts a transform block from its neighbours (8.4.4.2), which are smoothed where the mode asks

@@ -1,8 +1,9 @@
 //! Intra_DC, in lanes.
 //!
-//! It reads the line itself, and loads each side of the block once: what is written can't change it.
+//! It reads the line itself, each side of the block at once.
 
-ghost use Rattle.std.specs.Prelude.{◌≡◌, ◌+◌, ◌-◌, ◌*◌, ◌/◌, ◌^◌, ◌<◌, ◌≤◌, length, map, slice_index, cond, nat_eq};
+ghost use Rattle.std.specs.Prelude.{◌≡◌, ◌+◌, ◌*◌, ◌/◌, ◌^◌, ◌<◌, ◌≤◌, length, map};
+ghost use Rattle.std.specs.Prelude.{slice_index, cond, nat_eq};
 ghost use Rattle.std.specs.Simd.Lanes.{sum_l};
 ghost use Rattle.hv_intra.specs.Blocks.{IsRow, HasRows};
 ghost use Rattle.hv_intra.specs.Lines.{edge_of};
@@ -65,7 +66,8 @@ fn edges<const N: usize>(neighbours: Simd<u8, N>, more: u16) -> Simd<u8, N>
 fn fill_upper_row<const N: usize>(neighbours: Neighbours<'_>, value: u8, row: &mut [u8])
     requires side { N ≡ 2 ^ neighbours.side.log2 }
     requires room { length row.old ≡ N }
-    ensures { IsRow N (λ x. edged value neighbours.entry.side.log2 neighbours.entry.line.now x 0) row.new }
+    ensures { IsRow N
+        (λ x. edged value neighbours.entry.side.log2 neighbours.entry.line.now x 0) row.new }
 {
     let above = Simd::<u8, N>::from_slice(&neighbours.line[2 * N + 1..3 * N + 1]);
     edges(above, weighted(value)).copy_to_slice(row);
@@ -76,7 +78,8 @@ fn fill_upper_row<const N: usize>(neighbours: Neighbours<'_>, value: u8, row: &m
 #[inline(always)]
 fn fill_left_edge<const N: usize>(neighbours: Neighbours<'_>, value: u8, out: &mut [u8; N])
     requires { N ≡ 2 ^ neighbours.side.log2 }
-    ensures { IsRow N (λ i. edge_of (3 * value + 2) (slice_index neighbours.entry.line.now (N + i))) out.new }
+    ensures { IsRow N
+        (λ i. edge_of (3 * value + 2) (slice_index neighbours.entry.line.now (N + i))) out.new }
 {
     let left = Simd::<u8, N>::from_slice(&neighbours.line[N..2 * N]);
     edges(left, weighted(value)).copy_to_slice(&mut out[..]);
@@ -105,10 +108,12 @@ fn fill_row<const N: usize>(
 )
     requires side { N ≡ 2 ^ neighbours.side.log2 }
     requires most { N ≤ 32 }
-    requires left_edge { IsRow N (λ i. edge_of (3 * value + 2) (slice_index neighbours.line.now (N + i))) left_edge.now }
+    requires left_edge { IsRow N
+        (λ i. edge_of (3 * value + 2) (slice_index neighbours.line.now (N + i))) left_edge.now }
     requires row { y < N }
     requires room { length row.old ≡ N }
-    ensures { IsRow N (λ x. edged value neighbours.entry.side.log2 neighbours.entry.line.now x y) row.new }
+    ensures { IsRow N
+        (λ x. edged value neighbours.entry.side.log2 neighbours.entry.line.now x y) row.new }
 {
     if y == 0 {
         fill_upper_row::<N>(neighbours, value, row);
@@ -123,7 +128,8 @@ fn fill_with_edges<const N: usize>(neighbours: Neighbours<'_>, value: u8, out: &
     requires side { N ≡ 2 ^ neighbours.side.log2 }
     requires most { N ≤ 32 }
     requires room { length out.old ≡ N * N }
-    ensures { HasRows N N (edged value neighbours.entry.side.log2 neighbours.entry.line.now) out.new }
+    ensures { HasRows N N
+        (edged value neighbours.entry.side.log2 neighbours.entry.line.now) out.new }
 {
     let mut left_edge = [0; N];
     fill_left_edge(neighbours, value, &mut left_edge);

@@ -6,5 +6,6 @@ pub returns : goal.returns
 returns g c =
     let n = g.row.N in
     let s = c.args.neighbours in
-    mean_is s.side.log2 n (3 * n + 1 - (2 * n + 1)) (2 * n - n) c.total.result c.total-2.result s.line.now
-    c.requires.side s.count (omega arith) (omega arith) c.total.ensures.value c.total-2.ensures.value
+    mean_is s.side.log2 n (3 * n + 1 - (2 * n + 1)) (2 * n - n)
+    c.total.result c.total-2.result s.line.now c.requires.side s.count (omega arith) (omega arith)
+    c.total.ensures.value c.total-2.ensures.value

@@ -1,12 +1,12 @@
 -- Planes of which rectangles are filled, one after another.
-use Rattle.std.proofs.Common.{◌≡◌, ℕ, ◌+◌, ◌<◌, ◌≤◌, ⊎_elim, refl, sym, ◌∙◌, ap₂, subst, arith}
+use Rattle.std.proofs.Common.{◌≡◌, ℕ, ◌+◌, ◌<◌, ◌≤◌, ⊎_elim, refl, sym, ◌∙◌, ap, ap₂, subst, arith}
 use Rattle.std.proofs.lemmas.Bool.{cases_lt}
 use Rattle.hv_types.specs.Samples.{Plane, IsWhole, sample_at, with_sample}
 use Rattle.hv_types.proofs.SampleLemmas.{IsPlane-with_sample, sample_at-with_sample_same, sample_at-with_sample_other}
 use Rattle.hv_deblock_model.specs.Deblocking.{Samples}
-use Rattle.hv_deblock.specs.declared.direction.Direction.{Direction}
-use Rattle.hv_deblock.specs.declared.direction.Direction.TheVariants.{Vertical, Horizontal}
-use Rattle.hv_deblock.specs.Filled.{columns_of, rows_of, with_sample_of, IsFilled}
+use Rattle.hv_deblock.specs.Filled.{Direction}
+use Rattle.hv_deblock.specs.Filled.{Vertical, Horizontal}
+use Rattle.hv_deblock.specs.Filled.{columns_of, rows_of, samples_of, with_sample_of, IsFilled}
 
 pub columns_same : (d : Direction) (old new : Plane) → new.width ≡ old.width → new.height ≡ old.height → columns_of d new ≡ columns_of d old
 columns_same Vertical old new wide high = wide
@@ -70,6 +70,23 @@ no_rows d f p left right at whole = record {
   high = refl;
   whole = whole;
   inside = λ a b from to up down column row. absurd (omega arith);
+  before = λ a b less column row. refl;
+  behind = λ a b more column row. refl;
+  above = λ a b less column row. refl;
+  below = λ a b more column row. refl;
+}
+
+-- a part of a row that is as it becomes
+pub kept_filled : (d : Direction) (left right y : ℕ) (f : Samples) (p : Plane) → IsWhole p →
+    ((x : ℕ) → left ≤ x → x < right → f x y ≡ samples_of d p x y) →
+    IsFilled d left right y (y + 1) f p p
+kept_filled d left right y f p whole same = record {
+  wide = refl;
+  high = refl;
+  whole = whole;
+  inside = λ a b from to up down column row.
+      let is : b ≡ y = omega arith in
+      ap (samples_of d p a) is ∙ sym (same a from to) ∙ sym (ap (f a) is);
   before = λ a b less column row. refl;
   behind = λ a b more column row. refl;
   above = λ a b less column row. refl;

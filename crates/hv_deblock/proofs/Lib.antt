@@ -1,4 +1,5 @@
 mod FilledLemmas
+mod KeptLemmas
 mod LineLemmas
 mod PassLemmas
 mod PlaneLemmas

@@ -1,7 +1,7 @@
 -- Lines behind the normal filter (8.7.2.5.7).
-use Rattle.std.proofs.Common.{◌≡◌, ℕ, ◌*◌, ◌<◌, Bool, true, false, cond, nat_lt, refl, arith, sym, ap, ◌∙◌, ℤ}
+use Rattle.std.proofs.Common.{◌≡◌, ℕ, ◌*◌, ◌<◌, Bool, true, false, cond, nat_lt, ◌&&◌, refl, sym, ap, ◌∙◌, ℤ}
 use Rattle.std.specs.Int.RustNames.{unsigned_abs}
-use Rattle.std.proofs.lemmas.Bool.Decides.{nat_tests}
+use Rattle.hv_deblock_model.specs.declared.line.Side.{Side}
 use Rattle.hv_deblock_model.specs.declared.line.Line.{Line}
 use Rattle.hv_deblock_model.specs.EdgeFilters.{clip_to, luma_step, stepped_line, normal_line}
 use Rattle.hv_lemmas.proofs.ComparisonLemmas.{lt_below}
@@ -11,6 +11,10 @@ first_of_cond b x y e = rw e refl
 
 pub second_of_cond : {A : Type 0} (b : Bool) (x y : A) → b ≡ false → cond b x y ≡ y
 second_of_cond b x y e = rw e refl
+
+pub and_false : (b : Bool) → (b && false) ≡ false
+and_false true = refl
+and_false false = refl
 
 -- where the step is small
 pub normal_stepped : (tc : ℕ) (dEp dEq : Bool) (line new : Line) (step clipped : ℤ) → step ≡ luma_step line →

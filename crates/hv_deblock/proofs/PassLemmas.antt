@@ -1,6 +1,6 @@
 -- A pass of the code, segment after segment, is the pass of the formulas: no segment reads what
 -- another one writes (8.7.2).
-use Rattle.std.proofs.Common.{◌≡◌, ℕ, ◌+◌, ◌-◌, ◌*◌, ◌%◌, ◌<◌, ◌≤◌, Bool, true, false, cond, nat_lt, ◌&&◌, ⊎_elim, refl, sym, ◌∙◌, ap, ap₂, subst, arith}
+use Rattle.std.proofs.Common.{◌≡◌, ℕ, ◌+◌, ◌-◌, ◌*◌, ◌%◌, ◌<◌, ◌≤◌, cond, nat_lt, ◌&&◌, ⊎_elim, sym, ◌∙◌, ap, ap₂, subst, arith}
 use Rattle.std.proofs.lemmas.Bool.{cases_lt}
 use Rattle.hv_lemmas.proofs.ComparisonLemmas.{lt_below, lt_not_below}
 use Rattle.hv_types.specs.Samples.{Plane}
@@ -10,10 +10,10 @@ use Rattle.hv_deblock_model.specs.EdgeFilters.{luma_edge, chroma_edge}
 use Rattle.hv_deblock_model.specs.Deblocking.{Samples, EdgeFilter, line_at, line_sample, nearest_edge, first_of_four, filtered_line, pass}
 use Rattle.hv_deblock.specs.declared.component.Component.{Component}
 use Rattle.hv_deblock.specs.declared.component.Component.TheVariants.{Luma, Chroma}
-use Rattle.hv_deblock.specs.declared.direction.Direction.{Direction}
+use Rattle.hv_deblock.specs.Filled.{Direction}
 use Rattle.hv_deblock.specs.Filled.{columns_of, rows_of, samples_of, IsFilled, IsTurnedInto}
 use Rattle.hv_deblock.specs.Passes.{edge_line, segment_sample, filter_of, strength_of_four, scale}
-use Rattle.hv_deblock.proofs.LineLemmas.{first_of_cond, second_of_cond}
+use Rattle.hv_deblock.proofs.LineLemmas.{first_of_cond, second_of_cond, and_false}
 use Rattle.hv_deblock_model.proofs.LineLemmas.{line_same}
 use Rattle.hv_deblock.proofs.SegmentLemmas.{line_below}
 use Rattle.hv_deblock.proofs.FilledLemmas.{columns_same, rows_same, fill_below, fill_right, filled_same}
@@ -115,10 +115,6 @@ edge_more d edge k left right old mid new some across at is fours h g =
     g)))
 
 -- ---- the whole pass
-
-and_false : (b : Bool) → (b && false) ≡ false
-and_false true = refl
-and_false false = refl
 
 -- no edge at the borders
 pub outside_edges : (columns : ℕ) (edge : EdgeFilter) (s : Samples) (x y : ℕ) → nearest_edge x ≡ 0 → pass columns edge s x y ≡ s x y

@@ -6,7 +6,7 @@ use Rattle.hv_types.proofs.SampleLemmas.{plane_is}
 use Rattle.hv_deblock_model.specs.EdgeStrength.{Squares}
 use Rattle.hv_deblock_model.specs.Deblocking.{Samples, EdgeFilter, nearest_edge, pass, turned, both_passes, deblocked_plane}
 use Rattle.hv_deblock.specs.declared.component.Component.{Component}
-use Rattle.hv_deblock.specs.declared.direction.Direction.TheVariants.{Vertical, Horizontal}
+use Rattle.hv_deblock.specs.Filled.{Vertical, Horizontal}
 use Rattle.hv_deblock.specs.Filled.{IsTurnedInto}
 use Rattle.hv_deblock.specs.Passes.{filter_of, scale}
 use Rattle.hv_deblock.proofs.PassLemmas.{pass_alike, outside_edges, behind_edges, side_by_fours}

@@ -1,19 +1,27 @@
 -- Lines that are read from a plane while it is filtered, and edges that change nothing.
 use Rattle.std.proofs.Common.{◌≡◌, ℕ, zero, suc, ◌+◌, ◌-◌, ◌*◌, ◌%◌, ◌<◌, ◌≤◌, Bool, true, false, cond, nat_eq, ◌&&◌, refl, sym, ◌∙◌, ap, ap₂, subst, arith}
 use Rattle.std.specs.Prelude.{not}
+use Rattle.hv_lemmas.proofs.ComparisonLemmas.{other_than_0}
 use Rattle.hv_types.specs.Samples.{Plane, IsWhole}
+use Rattle.hv_tables.specs.Quantisers.{chroma_qp}
 use Rattle.hv_deblock_model.specs.declared.line.Side.{Side}
 use Rattle.hv_deblock_model.specs.declared.line.Line.{Line}
-use Rattle.hv_deblock_model.specs.EdgeFilters.{beta, is_filtered}
+use Rattle.hv_deblock_model.specs.EdgeFilters.{beta, tc, is_filtered, is_strong, is_smooth, strong_line, normal_line, chroma_line}
 use Rattle.hv_deblock_model.specs.Deblocking.{Samples, line_at, line_sample}
 use Rattle.hv_deblock.specs.declared.component.Component.{Component}
 use Rattle.hv_deblock.specs.declared.component.Component.TheVariants.{Luma, Chroma}
-use Rattle.hv_deblock.specs.declared.direction.Direction.{Direction}
+use Rattle.hv_deblock.specs.Filled.{Direction}
 use Rattle.hv_deblock.specs.Filled.{columns_of, rows_of, samples_of, IsFilled}
+use Rattle.hv_deblock.specs.Lines.{KeepsOuter, lines_after}
 use Rattle.hv_deblock.specs.Passes.{edge_line, edge_changes, segment_sample}
+<<<<<<< HEAD
 use Rattle.hv_deblock_model.proofs.LineLemmas.{line_same}
 use Rattle.hv_deblock.proofs.LineLemmas.{second_of_cond}
 use Rattle.hv_deblock.proofs.FilledLemmas.{fill_below, filled_same}
+=======
+use Rattle.hv_deblock.proofs.LineLemmas.{line_of, first_of_cond, second_of_cond, and_false}
+use Rattle.hv_deblock.proofs.FilledLemmas.{fill_below, fill_right, filled_same, kept_filled}
+>>>>>>> 22612e3 (Deblocking: four lines are decided on once, each direction is compiled for itself, and what a filter leaves isn't written)
 
 -- a row below those that are filled is as before
 pub line_below : (d : Direction) (k top bottom y : ℕ) (f : Samples) (old mid : Plane) → 0 < k → 8 * k + 3 < columns_of d old →
@@ -24,30 +32,64 @@ line_below d k top bottom y f old mid some across after down h =
     (λ x from to. h.below x y after (omega (arith, to, across)) down)
 
 -- one line more of four
-pub line_more : (component : Component) (d : Direction) (qp bS k top y next : ℕ) (first last line new_line : Line) (old mid new : Plane) →
+pub line_more : (d : Direction) (k top y next : ℕ) (after : Line → Line) (line new_line : Line) (old mid new : Plane) →
     0 < k → 8 * k + 3 < columns_of d old → top ≤ y → next ≡ y + 1 → y < rows_of d old →
-    first ≡ line_at (samples_of d old) k top → last ≡ line_at (samples_of d old) k (top + 3) → line ≡ line_at (samples_of d mid) k y →
-    new_line ≡ edge_line component qp bS first last line →
-    IsFilled d (8 * k - 4) (8 * k + 4) top y (segment_sample component qp bS k top (samples_of d old)) old mid →
+    line ≡ line_at (samples_of d mid) k y → new_line ≡ after line →
+    IsFilled d (8 * k - 4) (8 * k + 4) top y (lines_after after k (samples_of d old)) old mid →
     IsFilled d (8 * k - 4) (8 * k + 4) y (y + 1) (λ a b. line_sample new_line ((a + 4) % 8)) mid new →
-    IsFilled d (8 * k - 4) (8 * k + 4) top next (segment_sample component qp bS k top (samples_of d old)) old new
-line_more component d qp bS k top y next first last line new_line old mid new some across low is down is_first is_last is_line is_new h g =
-    let is_old : line ≡ line_at (samples_of d old) k y =
-    is_line ∙ line_below d k top y y (segment_sample component qp bS k top (samples_of d old)) old mid some across (omega arith) down h in
-    let whole : new_line ≡ edge_line component qp bS (line_at (samples_of d old) k top) (line_at (samples_of d old) k (top + 3)) (line_at (samples_of d old) k y) =
-    is_new
-    ∙ ap (λ l. edge_line component qp bS l last line) is_first
-    ∙ ap (λ l. edge_line component qp bS (line_at (samples_of d old) k top) l line) is_last
-    ∙ ap (edge_line component qp bS (line_at (samples_of d old) k top) (line_at (samples_of d old) k (top + 3))) is_old in
-    subst (λ n. IsFilled d (8 * k - 4) (8 * k + 4) top n (segment_sample component qp bS k top (samples_of d old)) old new) (sym is)
-    (fill_below d (8 * k - 4) (8 * k + 4) top y (y + 1) (segment_sample component qp bS k top (samples_of d old)) old mid new low (omega arith) h
-    (filled_same d (8 * k - 4) (8 * k + 4) y (y + 1) (λ a b. line_sample new_line ((a + 4) % 8))
-    (segment_sample component qp bS k top (samples_of d old)) mid new
+    IsFilled d (8 * k - 4) (8 * k + 4) top next (lines_after after k (samples_of d old)) old new
+line_more d k top y next after line new_line old mid new some across low is down is_line is_new h g =
+    let f : Samples = lines_after after k (samples_of d old) in
+    let whole : new_line ≡ after (line_at (samples_of d old) k y) =
+    is_new ∙ ap after (is_line ∙ line_below d k top y y f old mid some across (omega arith) down h) in
+    subst (λ n. IsFilled d (8 * k - 4) (8 * k + 4) top n f old new) (sym is)
+    (fill_below d (8 * k - 4) (8 * k + 4) top y (y + 1) f old mid new low (omega arith) h
+    (filled_same d (8 * k - 4) (8 * k + 4) y (y + 1) (λ a b. line_sample new_line ((a + 4) % 8)) f mid new
     (λ a b from to up below column row.
     let same : b ≡ y = omega arith in
-    ap (λ l. line_sample l ((a + 4) % 8)) whole
-    ∙ ap (λ r. segment_sample component qp bS k top (samples_of d old) a r) (sym same))
+    ap (λ l. line_sample l ((a + 4) % 8)) whole ∙ ap (f a) (sym same))
     g))
+
+-- lines that a filter was decided on for are a segment
+pub lines_as_segment : (component : Component) (d : Direction) (qp bS k top bottom : ℕ) (after : Line → Line) (first last : Line) (old new : Plane) →
+    first ≡ line_at (samples_of d old) k top → last ≡ line_at (samples_of d old) k (top + 3) →
+    ((line : Line) → after line ≡ edge_line component qp bS first last line) →
+    IsFilled d (8 * k - 4) (8 * k + 4) top bottom (lines_after after k (samples_of d old)) old new →
+    IsFilled d (8 * k - 4) (8 * k + 4) top bottom (segment_sample component qp bS k top (samples_of d old)) old new
+lines_as_segment component d qp bS k top bottom after first last old new is_first is_last same h =
+    filled_same d (8 * k - 4) (8 * k + 4) top bottom (lines_after after k (samples_of d old))
+    (segment_sample component qp bS k top (samples_of d old)) old new
+    (λ x y from to up down column row.
+    let line : Line = line_at (samples_of d old) k y in
+    ap (λ l. line_sample l ((x + 4) % 8))
+    (same line
+    ∙ ap (λ l. edge_line component qp bS l last line) is_first
+    ∙ ap (λ l. edge_line component qp bS (line_at (samples_of d old) k top) l line) is_last))
+    h
+
+-- the filters that are decided on
+pub strong_edge : (qp bS : ℕ) (first last : Line) → 0 < bS → is_filtered (beta qp) first last ≡ true →
+    is_strong (beta qp) (tc qp bS) first last ≡ true → (line : Line) → strong_line (tc qp bS) line ≡ edge_line Luma qp bS first last line
+strong_edge qp bS first last some filtered strong line =
+    sym (second_of_cond (nat_eq bS 0) line _ (other_than_0 bS some)
+    ∙ first_of_cond (is_filtered (beta qp) first last) _ line filtered
+    ∙ first_of_cond (is_strong (beta qp) (tc qp bS) first last) _ _ strong)
+
+pub normal_edge : (qp bS : ℕ) (first last : Line) → 0 < bS → is_filtered (beta qp) first last ≡ true →
+    is_strong (beta qp) (tc qp bS) first last ≡ false → (line : Line) →
+    normal_line (tc qp bS) (is_smooth (beta qp) first.p last.p) (is_smooth (beta qp) first.q last.q) line ≡ edge_line Luma qp bS first last line
+normal_edge qp bS first last some filtered weak line =
+    sym (second_of_cond (nat_eq bS 0) line _ (other_than_0 bS some)
+    ∙ first_of_cond (is_filtered (beta qp) first last) _ line filtered
+    ∙ second_of_cond (is_strong (beta qp) (tc qp bS) first last) _ _ weak)
+
+pub chroma_edge_2 : (qp bS : ℕ) (first last : Line) → bS ≡ 2 → (line : Line) →
+    chroma_line (tc (chroma_qp qp) bS) line ≡ edge_line Chroma qp bS first last line
+chroma_edge_2 qp bS first last is line = sym (first_of_cond (nat_eq bS 2) _ line (ap (λ b. nat_eq b 2) is))
+
+pub unfiltered : (qp bS : ℕ) (first last : Line) → is_filtered (beta qp) first last ≡ false →
+    edge_changes Luma qp bS first last ≡ false
+unfiltered qp bS first last none = ap (λ b. not (nat_eq bS 0) && b) none ∙ and_false (not (nat_eq bS 0))
 
 -- ---- edges that change nothing
 
@@ -107,3 +149,36 @@ pub nothing_filtered : (component : Component) (d : Direction) (qp bS k top bott
 nothing_filtered component d qp bS k top bottom p none some whole =
     nothing_changes component d qp bS k top bottom (line_at (samples_of d p) k top) (line_at (samples_of d p) k (top + 3)) p refl refl
     (none_at_0 component qp bS (line_at (samples_of d p) k top) (line_at (samples_of d p) k (top + 3)) none) some whole
+
+-- ---- the outer samples of a line
+
+-- the samples before those that are put
+pub kept_left : (d : Direction) (margin k y : ℕ) (line : Line) (p : Plane) → margin ≤ 3 → 0 < k → IsWhole p →
+    KeepsOuter margin (line_at (samples_of d p) k y) line →
+    IsFilled d (8 * k - 4) (8 * k - 4 + margin) y (y + 1) (λ a b. line_sample line ((a + 4) % 8)) p p
+kept_left d margin k y line p few some whole kept =
+    kept_filled d (8 * k - 4) (8 * k - 4 + margin) y (λ a b. line_sample line ((a + 4) % 8)) p whole
+    (λ x from to.
+    let place : (x + 4) % 8 ≡ x - (8 * k - 4) = omega (arith, few, some, from, to) in
+    ap (line_sample line) place
+    ∙ (kept (x - (8 * k - 4)) (omega arith)).0
+    ∙ ap (line_sample (line_at (samples_of d p) k y)) (sym place)
+    ∙ own_sample (samples_of d p) k x y some from (omega (arith, few, to)))
+
+-- and those behind them
+pub kept_right : (d : Direction) (margin k y right : ℕ) (line : Line) (old new : Plane) → margin ≤ 3 → 0 < k →
+    8 * k + 3 < columns_of d old → y < rows_of d old → right ≡ 8 * k + 4 - margin →
+    KeepsOuter margin (line_at (samples_of d old) k y) line →
+    IsFilled d (8 * k - 4) right y (y + 1) (λ a b. line_sample line ((a + 4) % 8)) old new →
+    IsFilled d (8 * k - 4) (8 * k + 4) y (y + 1) (λ a b. line_sample line ((a + 4) % 8)) old new
+kept_right d margin k y right line old new few some across down is kept h =
+    let f : Samples = λ a b. line_sample line ((a + 4) % 8) in
+    fill_right d (8 * k - 4) right (8 * k + 4) y (y + 1) f old new new (omega (arith, is, few, some)) (omega (arith, is)) h
+    (kept_filled d right (8 * k + 4) y f new h.whole
+    (λ x from to.
+    let place : (x + 4) % 8 ≡ 7 - (8 * k + 3 - x) = omega (arith, few, some, is, from, to) in
+    ap (line_sample line) place
+    ∙ (kept (8 * k + 3 - x) (omega (arith, is, from, to, some, few))).1
+    ∙ ap (line_sample (line_at (samples_of d old) k y)) (sym place)
+    ∙ own_sample (samples_of d old) k x y some (omega (arith, is, from, few)) to
+    ∙ sym (h.behind x y from (omega (arith, to, across)) down)))

@@ -4,8 +4,11 @@ use Rattle.std.specs.Prelude.{◌≡◌, ℕ, ◌+◌, ◌-◌, ◌<◌, ◌≤�
 use Rattle.hv_types.specs.Samples.{Plane, IsWhole, sample_at, with_sample}
 use Rattle.hv_deblock_model.specs.declared.line.Side.{Side}
 use Rattle.hv_deblock_model.specs.Deblocking.{Samples, turned}
-use Rattle.hv_deblock.specs.declared.direction.Direction.{Direction}
-use Rattle.hv_deblock.specs.declared.direction.Direction.TheVariants.{Vertical, Horizontal}
+
+-- the direction of the edges of a pass
+pub data Direction : Type 0 where
+  Vertical : Direction
+  Horizontal : Direction
 
 abbrev pub columns_of : Direction → Plane → ℕ
 columns_of Vertical plane = plane.width

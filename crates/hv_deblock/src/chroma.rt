@@ -1,12 +1,10 @@
 //! The new samples of a line of a chroma edge (8.7.2.5.8).
 
 ghost use Rattle.std.specs.Prelude.{◌≡◌, ◌≤◌, unsigned_abs};
-ghost use Rattle.hv_deblock_model.specs.EdgeFilters.{chroma_step, moved_side, chroma_line, chroma_edge};
+ghost use Rattle.hv_deblock_model.specs.EdgeFilters.{chroma_step, moved_side, chroma_line};
 
 use crate::steps::{chroma_step, clip_to, difference, moved, turned_step};
-use crate::thresholds::tc;
 use hv_deblock_model::{Line, Side};
-use hv_tables::chroma_qp;
 
 /// The step from q0 to p0, before it is clipped.
 #[inline(always)]
@@ -32,6 +30,7 @@ fn moved_side(side: Side, step: i32) -> Side
 
 /// A line of a chroma edge behind the filter, by the threshold `tc`, 0 to 24: only p0 and q0 change
 /// (8.7.2.5.8).
+#[inline(always)]
 pub fn chroma_line(tc: u8, line: Line) -> Line
     requires { tc ≤ 24 }
     ensures { result ≡ chroma_line tc line }
@@ -40,20 +39,5 @@ pub fn chroma_line(tc: u8, line: Line) -> Line
     Line {
         p: moved_side(line.p, step),
         q: moved_side(line.q, turned_step(step)),
-    }
-}
-
-/// A line of a chroma edge behind the filter, by the quantiser of luma, 0 to 51, and the strength,
-/// 0 to 2: a line changes where that is 2. The quantiser of chroma is that of the table (8.6.1).
-#[inline(always)]
-pub(crate) fn chroma_edge(qp: u8, strength: u8, line: Line) -> Line
-    requires qp { qp ≤ 51 }
-    requires strength { strength ≤ 2 }
-    ensures { result ≡ chroma_edge qp strength line }
-{
-    if strength == 2 {
-        chroma_line(tc(chroma_qp(qp), strength), line)
-    } else {
-        line
     }
 }

@@ -7,7 +7,7 @@ ghost use Rattle.hv_deblock_model.specs.Deblocking.{deblocked_plane, deblocked_p
 ghost use Rattle.hv_deblock.specs.Passes.{filter_of, scale};
 
 use crate::component::Component;
-use crate::direction::Direction;
+use crate::direction::{HorizontalEdges, VerticalEdges};
 use crate::passes::pass;
 use crate::squares::CodedSquares;
 use hv_types::{Picture, Plane};
@@ -21,8 +21,8 @@ fn deblock_plane<S: CodedSquares>(plane: &mut Plane, component: Component, qp: u
     ensures { plane.new ≡
         deblocked_plane (filter_of component qp) (S.coding squares.now) plane.old }
 {
-    pass(plane, Direction::Vertical, component, qp, squares);
-    pass(plane, Direction::Horizontal, component, qp, squares);
+    pass::<VerticalEdges, S>(plane, component, qp, squares);
+    pass::<HorizontalEdges, S>(plane, component, qp, squares);
 }
 
 /// The deblocking filter (8.7.2), in place: `picture` becomes the deblocked one. `squares` says how

@@ -2,64 +2,107 @@
 //! pass and rows along them.
 
 ghost use Rattle.std.specs.Prelude.{◌≡◌, ◌<◌};
-ghost use Rattle.hv_types.specs.Samples.{IsWhole};
-ghost use Rattle.hv_deblock.specs.Filled.{columns_of, rows_of, samples_of, with_sample_of};
+ghost use Rattle.hv_deblock.specs.Filled.{Vertical, Horizontal};
 
+use crate::squares::CodedSquares;
+use hv_deblock_model::SquareCoding;
 use hv_types::Plane;
 
-/// The edges of a pass.
-#[derive(Clone, Copy)]
-pub(crate) enum Direction {
-    Vertical,
-    Horizontal,
-}
+/// The edges of a pass. Each direction is a type, so that its code is compiled for it alone.
+pub(crate) trait Edges {
+    ghost use Rattle.hv_deblock.specs.Filled.{Direction, columns_of, rows_of, first_of, second_of, samples_of, with_sample_of, seen};
 
-impl Direction {
+    /// Their direction.
+    ghost direction: { Direction };
+
     /// How many columns a plane has across the edges.
-    #[inline(always)]
-    pub(crate) fn columns(self, plane: &Plane) -> u32
-        ensures { result ≡ columns_of self plane.now }
-    {
-        match self {
-            Direction::Vertical => plane.width(),
-            Direction::Horizontal => plane.height(),
-        }
-    }
+    fn columns(plane: &Plane) -> u32
+        ensures { result ≡ columns_of direction plane.now };
 
     /// How many rows a plane has along them.
-    #[inline(always)]
-    pub(crate) fn rows(self, plane: &Plane) -> u32
-        ensures { result ≡ rows_of self plane.now }
-    {
-        match self {
-            Direction::Vertical => plane.height(),
-            Direction::Horizontal => plane.width(),
-        }
-    }
+    fn rows(plane: &Plane) -> u32
+        ensures { result ≡ rows_of direction plane.now };
 
     /// A sample.
-    #[inline(always)]
-    pub(crate) fn at(self, plane: &Plane, x: u32, y: u32) -> u8
-        requires x { x < columns_of self plane.now }
-        requires y { y < rows_of self plane.now }
-        ensures { result ≡ samples_of self plane.now x y }
-    {
-        match self {
-            Direction::Vertical => plane.at(x, y),
-            Direction::Horizontal => plane.at(y, x),
-        }
-    }
+    fn at(plane: &Plane, x: u32, y: u32) -> u8
+        requires x { x < columns_of direction plane.now }
+        requires y { y < rows_of direction plane.now }
+        ensures { result ≡ samples_of direction plane.now x y };
 
     /// Puts a sample, and leaves every other one.
+    fn set(plane: &mut Plane, x: u32, y: u32, value: u8)
+        requires x { x < columns_of direction plane.old }
+        requires y { y < rows_of direction plane.old }
+        ensures { plane.new ≡ with_sample_of direction plane.old x y value };
+
+    /// The square at a column across the edges, and a row along them.
+    fn square<S: CodedSquares>(squares: &S, column: u32, row: u32) -> SquareCoding
+        requires column { column <
+            first_of direction (S.columns squares.now) (S.rows squares.now) }
+        requires row { row < second_of direction (S.columns squares.now) (S.rows squares.now) }
+        ensures { result ≡ seen direction (S.coding squares.now) column row };
+}
+
+/// Edges between columns of a picture.
+pub(crate) struct VerticalEdges;
+
+impl Edges for VerticalEdges {
+    ghost direction = { Vertical };
+
     #[inline(always)]
-    pub(crate) fn set(self, plane: &mut Plane, x: u32, y: u32, value: u8)
-        requires x { x < columns_of self plane.old }
-        requires y { y < rows_of self plane.old }
-        ensures { plane.new ≡ with_sample_of self plane.old x y value }
-    {
-        match self {
-            Direction::Vertical => plane.set(x, y, value),
-            Direction::Horizontal => plane.set(y, x, value),
-        }
+    fn columns(plane: &Plane) -> u32 {
+        plane.width()
+    }
+
+    #[inline(always)]
+    fn rows(plane: &Plane) -> u32 {
+        plane.height()
+    }
+
+    #[inline(always)]
+    fn at(plane: &Plane, x: u32, y: u32) -> u8 {
+        plane.at(x, y)
+    }
+
+    #[inline(always)]
+    fn set(plane: &mut Plane, x: u32, y: u32, value: u8) {
+        plane.set(x, y, value);
+    }
+
+    #[inline(always)]
+    fn square<S: CodedSquares>(squares: &S, column: u32, row: u32) -> SquareCoding {
+        squares.square(column, row)
+    }
+}
+
+/// Edges between its rows.
+pub(crate) struct HorizontalEdges;
+
+impl Edges for HorizontalEdges {
+    ghost direction = { Horizontal };
+
+    #[inline(always)]
+    fn columns(plane: &Plane) -> u32 {
+        plane.height()
+    }
+
+    #[inline(always)]
+    fn rows(plane: &Plane) -> u32 {
+        plane.width()
+    }
+
+    #[inline(always)]
+    fn at(plane: &Plane, x: u32, y: u32) -> u8 {
+        plane.at(y, x)
+    }
+
+    #[inline(always)]
+    fn set(plane: &mut Plane, x: u32, y: u32, value: u8) {
+        plane.set(y, x, value);
+    }
+
+    #[inline(always)]
+    fn square<S: CodedSquares>(squares: &S, column: u32, row: u32) -> SquareCoding {
+        squares.square(row, column)
     }
 }

@@ -6,6 +6,7 @@ mod component;
 mod deblocking;
 mod decisions;
 mod direction;
+mod filters;
 mod luma;
 mod passes;
 mod segment;

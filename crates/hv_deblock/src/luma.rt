@@ -1,11 +1,10 @@
 //! The new samples of a line of a luma edge (8.7.2.5.7).
 
 ghost use Rattle.std.specs.Prelude.{◌≡◌, ◌≤◌, ◌+◌, ◌/◌, unsigned_abs};
-ghost use Rattle.hv_deblock_model.specs.EdgeFilters.{cut, strong_side, strong_line, luma_step, second_step, normal_side, stepped_line, normal_line, luma_line, luma_edge};
+ghost use Rattle.hv_deblock_model.specs.EdgeFilters.{cut, strong_side, strong_line, luma_step, second_step, normal_side, stepped_line, normal_line, luma_line};
 
 use crate::decisions::{is_filtered, is_smooth, is_strong};
 use crate::steps::{clip_to, difference, half_of_sum, luma_step, moved, turned_step};
-use crate::thresholds::{beta, tc};
 use hv_deblock_model::{Line, Side};
 
 /// Cut to `2 * tc` from the old sample.
@@ -146,19 +145,4 @@ pub fn luma_line(beta: u8, tc: u8, first: Line, last: Line, line: Line) -> Line
     let smooth_p = is_smooth(beta, first.p, last.p);
     let smooth_q = is_smooth(beta, first.q, last.q);
     normal_line(tc, smooth_p, smooth_q, line)
-}
-
-/// A line of a luma edge behind the filter, by quantiser, 0 to 51, and strength, 0 to 2, and the
-/// first and the last of the four lines that are decided on together.
-#[inline(always)]
-pub(crate) fn luma_edge(qp: u8, strength: u8, first: Line, last: Line, line: Line) -> Line
-    requires qp { qp ≤ 51 }
-    requires strength { strength ≤ 2 }
-    ensures { result ≡ luma_edge qp strength first last line }
-{
-    if strength == 0 {
-        line
-    } else {
-        luma_line(beta(qp), tc(qp, strength), first, last, line)
-    }
 }

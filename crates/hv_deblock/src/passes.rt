@@ -7,15 +7,15 @@ ghost use Rattle.hv_deblock.specs.Filled.{columns_of, rows_of, seen, first_of, s
 ghost use Rattle.hv_deblock.specs.Passes.{segment_sample, strength_of_four, filter_of, scale};
 
 use crate::component::Component;
-use crate::direction::Direction;
+use crate::direction::Edges;
 use crate::segment::filter_segment;
 use crate::squares::{CodedSquares, strength_of_four};
 use hv_types::Plane;
 
 /// Filters the four rows of this number across edge number `k`, and leaves every other sample.
-fn filter_four<S: CodedSquares>(
+#[inline(always)]
+fn filter_four<E: Edges, S: CodedSquares>(
     plane: &mut Plane,
-    direction: Direction,
     component: Component,
     qp: u8,
     squares: &S,
@@ -24,31 +24,31 @@ fn filter_four<S: CodedSquares>(
 )
     requires whole { IsWhole plane.old }
     requires qp { qp ≤ 51 }
-    requires columns { columns_of direction plane.old ≡
-        scale component * first_of direction (S.columns squares.now) (S.rows squares.now) }
-    requires rows { rows_of direction plane.old ≡
-        scale component * second_of direction (S.columns squares.now) (S.rows squares.now) }
+    requires columns { columns_of E.direction plane.old ≡
+        scale component * first_of E.direction (S.columns squares.now) (S.rows squares.now) }
+    requires rows { rows_of E.direction plane.old ≡
+        scale component * second_of E.direction (S.columns squares.now) (S.rows squares.now) }
     requires least { 0 < k }
-    requires k { 8 * k + 3 < columns_of direction plane.old }
+    requires k { 8 * k + 3 < columns_of E.direction plane.old }
     requires fits { 8 * k + 3 < 2 ^ 32 }
-    requires four { 4 * four + 3 < rows_of direction plane.old }
+    requires four { 4 * four + 3 < rows_of E.direction plane.old }
     requires fits_down { 4 * four + 3 < 2 ^ 32 }
-    ensures { IsFilled direction (8 * k - 4) (8 * k + 4) (4 * four) (4 * four + 4)
+    ensures { IsFilled E.direction (8 * k - 4) (8 * k + 4) (4 * four) (4 * four + 4)
         (segment_sample component qp
-        (strength_of_four component (seen direction (S.coding squares.now)) k four)
-        k (4 * four) (samples_of direction plane.old))
+        (strength_of_four component (seen E.direction (S.coding squares.now)) k four)
+        k (4 * four) (samples_of E.direction plane.old))
         plane.old plane.new }
 {
-    let strength = strength_of_four(squares, direction, component, k, four);
+    let strength = strength_of_four::<E, S>(squares, component, k, four);
     if strength > 0 {
-        filter_segment(plane, direction, component, qp, strength, k, 4 * four);
+        filter_segment::<E>(plane, component, qp, strength, k, 4 * four);
     }
 }
 
 /// Filters all rows across edge number `k`, and leaves every other sample.
-fn filter_edge<S: CodedSquares>(
+#[inline(always)]
+fn filter_edge<E: Edges, S: CodedSquares>(
     plane: &mut Plane,
-    direction: Direction,
     component: Component,
     qp: u8,
     squares: &S,
@@ -56,47 +56,47 @@ fn filter_edge<S: CodedSquares>(
 )
     requires whole { IsWhole plane.old }
     requires qp { qp ≤ 51 }
-    requires columns { columns_of direction plane.old ≡
-        scale component * first_of direction (S.columns squares.now) (S.rows squares.now) }
-    requires rows { rows_of direction plane.old ≡
-        scale component * second_of direction (S.columns squares.now) (S.rows squares.now) }
+    requires columns { columns_of E.direction plane.old ≡
+        scale component * first_of E.direction (S.columns squares.now) (S.rows squares.now) }
+    requires rows { rows_of E.direction plane.old ≡
+        scale component * second_of E.direction (S.columns squares.now) (S.rows squares.now) }
     requires least { 0 < k }
-    requires k { 8 * k + 3 < columns_of direction plane.old }
+    requires k { 8 * k + 3 < columns_of E.direction plane.old }
     requires fits { 8 * k + 3 < 2 ^ 32 }
-    ensures { IsFilled direction (8 * k - 4) (8 * k + 4) 0 (rows_of direction plane.old)
-        (pass (columns_of direction plane.old)
-        (filter_of component qp (seen direction (S.coding squares.now)))
-        (samples_of direction plane.old))
+    ensures { IsFilled E.direction (8 * k - 4) (8 * k + 4) 0 (rows_of E.direction plane.old)
+        (pass (columns_of E.direction plane.old)
+        (filter_of component qp (seen E.direction (S.coding squares.now)))
+        (samples_of E.direction plane.old))
         plane.old plane.new }
 {
-    let fours = direction.rows(plane) / 4;
+    let fours = E::rows(plane) / 4;
     for four in 0..fours {
-        filter_four(plane, direction, component, qp, squares, k, four);
+        filter_four::<E, S>(plane, component, qp, squares, k, four);
     }
 }
 
 /// Filters all edges of one direction in a plane of a component, by the quantiser of luma, 0 to 51.
-pub(crate) fn pass<S: CodedSquares>(
+#[inline(never)]
+pub(crate) fn pass<E: Edges, S: CodedSquares>(
     plane: &mut Plane,
-    direction: Direction,
     component: Component,
     qp: u8,
     squares: &S,
 )
     requires whole { IsWhole plane.old }
     requires qp { qp ≤ 51 }
-    requires columns { columns_of direction plane.old ≡
-        scale component * first_of direction (S.columns squares.now) (S.rows squares.now) }
-    requires rows { rows_of direction plane.old ≡
-        scale component * second_of direction (S.columns squares.now) (S.rows squares.now) }
-    ensures { IsTurnedInto direction
-        (pass (columns_of direction plane.old)
-        (filter_of component qp (seen direction (S.coding squares.now)))
-        (samples_of direction plane.old))
+    requires columns { columns_of E.direction plane.old ≡
+        scale component * first_of E.direction (S.columns squares.now) (S.rows squares.now) }
+    requires rows { rows_of E.direction plane.old ≡
+        scale component * second_of E.direction (S.columns squares.now) (S.rows squares.now) }
+    ensures { IsTurnedInto E.direction
+        (pass (columns_of E.direction plane.old)
+        (filter_of component qp (seen E.direction (S.coding squares.now)))
+        (samples_of E.direction plane.old))
         plane.old plane.new }
 {
-    let edges = direction.columns(plane).div_ceil(8);
+    let edges = E::columns(plane).div_ceil(8);
     for k in 1..edges {
-        filter_edge(plane, direction, component, qp, squares, k);
+        filter_edge::<E, S>(plane, component, qp, squares, k);
     }
 }

@@ -6,7 +6,7 @@ ghost use Rattle.hv_deblock.specs.Filled.{seen, first_of, second_of};
 ghost use Rattle.hv_deblock.specs.Passes.{strength_of_four, scale};
 
 use crate::component::Component;
-use crate::direction::Direction;
+use crate::direction::Edges;
 use crate::strengths::{is_transform_edge, strength};
 use hv_deblock_model::SquareCoding;
 
@@ -28,38 +28,20 @@ pub trait CodedSquares {
         ensures { result ≡ coding self.now column row };
 }
 
-/// The square at a column across the edges of a pass, and a row along them.
-#[inline(always)]
-fn square_at<S: CodedSquares>(
-    squares: &S,
-    direction: Direction,
-    column: u32,
-    row: u32,
-) -> SquareCoding
-    requires column { column <
-        first_of direction (S.columns squares.now) (S.rows squares.now) }
-    requires row { row < second_of direction (S.columns squares.now) (S.rows squares.now) }
-    ensures { result ≡ seen direction (S.coding squares.now) column row }
-{
-    match direction {
-        Direction::Vertical => squares.square(column, row),
-        Direction::Horizontal => squares.square(row, column),
-    }
-}
-
 /// The strength of the edge before a square.
-fn edge_strength<S: CodedSquares>(squares: &S, direction: Direction, column: u32, row: u32) -> u8
+#[inline(always)]
+fn edge_strength<E: Edges, S: CodedSquares>(squares: &S, column: u32, row: u32) -> u8
     requires least { 0 < column }
     requires column { column <
-        first_of direction (S.columns squares.now) (S.rows squares.now) }
-    requires row { row < second_of direction (S.columns squares.now) (S.rows squares.now) }
+        first_of E.direction (S.columns squares.now) (S.rows squares.now) }
+    requires row { row < second_of E.direction (S.columns squares.now) (S.rows squares.now) }
     ensures value { result ≡
-        edge_strength (seen direction (S.coding squares.now)) column row }
+        edge_strength (seen E.direction (S.coding squares.now)) column row }
     ensures most { result ≤ 2 }
 {
-    let behind = square_at(squares, direction, column, row);
+    let behind = E::square(squares, column, row);
     if is_transform_edge(column, behind.unit.depth) {
-        let before = square_at(squares, direction, column - 1, row);
+        let before = E::square(squares, column - 1, row);
         strength(before, behind)
     } else {
         0
@@ -67,25 +49,25 @@ fn edge_strength<S: CodedSquares>(squares: &S, direction: Direction, column: u32
 }
 
 /// The strength of edge number `k` in the four rows of this number.
-pub(crate) fn strength_of_four<S: CodedSquares>(
+#[inline(always)]
+pub(crate) fn strength_of_four<E: Edges, S: CodedSquares>(
     squares: &S,
-    direction: Direction,
     component: Component,
     k: u32,
     four: u32,
 ) -> u8
     requires least { 0 < k }
     requires k { 8 * k <
-        scale component * first_of direction (S.columns squares.now) (S.rows squares.now) }
+        scale component * first_of E.direction (S.columns squares.now) (S.rows squares.now) }
     requires fits { 8 * k < 2 ^ 32 }
     requires four { 4 * four <
-        scale component * second_of direction (S.columns squares.now) (S.rows squares.now) }
+        scale component * second_of E.direction (S.columns squares.now) (S.rows squares.now) }
     ensures value { result ≡
-        strength_of_four component (seen direction (S.coding squares.now)) k four }
+        strength_of_four component (seen E.direction (S.coding squares.now)) k four }
     ensures most { result ≤ 2 }
 {
     match component {
-        Component::Luma => edge_strength(squares, direction, k, four / 2),
-        Component::Chroma => edge_strength(squares, direction, 2 * k, four),
+        Component::Luma => edge_strength::<E, S>(squares, k, four / 2),
+        Component::Chroma => edge_strength::<E, S>(squares, 2 * k, four),
     }
 }

@@ -6,6 +6,6 @@ use Rattle.hv_deblock.proofs.passes.filter_edge.Given as goal
 
 abbrev pub invariant-loop-four : goal.invariant-loop-four
 invariant-loop-four g l =
-    IsFilled l.direction (8 * l.k - 4) (8 * l.k + 4) 0 (4 * l.four)
-    (pass (columns_of l.direction l.fn.plane) (filter_of l.component l.qp (seen l.direction (g.S.CodedSquares.coding l.squares)))
-    (samples_of l.direction l.fn.plane)) l.fn.plane l.plane
+    IsFilled g.E.Edges.direction (8 * l.k - 4) (8 * l.k + 4) 0 (4 * l.four)
+    (pass (columns_of g.E.Edges.direction l.fn.plane) (filter_of l.component l.qp (seen g.E.Edges.direction (g.S.CodedSquares.coding l.squares)))
+    (samples_of g.E.Edges.direction l.fn.plane)) l.fn.plane l.plane

@@ -6,20 +6,20 @@ use Rattle.hv_deblock.proofs.passes.pass.Goals as goal
 
 pub returns : goal.returns
 returns g c =
-    all_edges c.args.direction (filter_of c.args.component c.args.qp (seen c.args.direction (g.S.CodedSquares.coding c.args.squares.now)))
+    all_edges g.E.Edges.direction (filter_of c.args.component c.args.qp (seen g.E.Edges.direction (g.S.CodedSquares.coding c.args.squares.now)))
     c.loop-k.k c.args.plane.now c.loop-k.plane c.loop-k.auto.k
     (omega (arith, c.loop-k-test.false, c.div_ceil-edges.ensures, c.columns.ensures)) c.loop-k.invariant
 
 pub loop-k-preserved : goal.loop-k-preserved
 loop-k-preserved g c =
-    edge_more c.args.direction (filter_of c.args.component c.args.qp (seen c.args.direction (g.S.CodedSquares.coding c.args.squares.now)))
+    edge_more g.E.Edges.direction (filter_of c.args.component c.args.qp (seen g.E.Edges.direction (g.S.CodedSquares.coding c.args.squares.now)))
     c.loop-k.k (8 * c.loop-k.k - 4) (8 * (c.loop-k.k + 1) - 4) c.args.plane.now c.loop-k.plane c.filter_edge.new.plane c.loop-k.auto.k
     (omega (
       arith,
       c.loop-k-test.true,
       c.div_ceil-edges.ensures,
       c.columns.ensures,
-      side_by_fours c.args.component (columns_of c.args.direction c.args.plane.now) _ c.requires.columns,
+      side_by_fours c.args.component (columns_of g.E.Edges.direction c.args.plane.now) _ c.requires.columns,
     ))
-    (omega arith) (omega arith) (side_by_fours c.args.component (rows_of c.args.direction c.args.plane.now) _ c.requires.rows)
+    (omega arith) (omega arith) (side_by_fours c.args.component (rows_of g.E.Edges.direction c.args.plane.now) _ c.requires.rows)
     c.loop-k.invariant c.filter_edge.ensures

@@ -6,6 +6,6 @@ use Rattle.hv_deblock.proofs.passes.pass.Given as goal
 
 abbrev pub invariant-loop-k : goal.invariant-loop-k
 invariant-loop-k g l =
-    IsFilled l.direction 4 (8 * l.k - 4) 0 (rows_of l.direction l.fn.plane)
-    (pass (columns_of l.direction l.fn.plane) (filter_of l.component l.qp (seen l.direction (g.S.CodedSquares.coding l.squares)))
-    (samples_of l.direction l.fn.plane)) l.fn.plane l.plane
+    IsFilled g.E.Edges.direction 4 (8 * l.k - 4) 0 (rows_of g.E.Edges.direction l.fn.plane)
+    (pass (columns_of g.E.Edges.direction l.fn.plane) (filter_of l.component l.qp (seen g.E.Edges.direction (g.S.CodedSquares.coding l.squares)))
+    (samples_of g.E.Edges.direction l.fn.plane)) l.fn.plane l.plane

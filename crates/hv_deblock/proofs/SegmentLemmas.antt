@@ -14,14 +14,9 @@ use Rattle.hv_deblock.specs.Filled.{Direction}
 use Rattle.hv_deblock.specs.Filled.{columns_of, rows_of, samples_of, IsFilled}
 use Rattle.hv_deblock.specs.Lines.{KeepsOuter, lines_after}
 use Rattle.hv_deblock.specs.Passes.{edge_line, edge_changes, segment_sample}
-<<<<<<< HEAD
 use Rattle.hv_deblock_model.proofs.LineLemmas.{line_same}
-use Rattle.hv_deblock.proofs.LineLemmas.{second_of_cond}
-use Rattle.hv_deblock.proofs.FilledLemmas.{fill_below, filled_same}
-=======
 use Rattle.hv_deblock.proofs.LineLemmas.{line_of, first_of_cond, second_of_cond, and_false}
 use Rattle.hv_deblock.proofs.FilledLemmas.{fill_below, fill_right, filled_same, kept_filled}
->>>>>>> 22612e3 (Deblocking: four lines are decided on once, each direction is compiled for itself, and what a filter leaves isn't written)
 
 -- a row below those that are filled is as before
 pub line_below : (d : Direction) (k top bottom y : ℕ) (f : Samples) (old mid : Plane) → 0 < k → 8 * k + 3 < columns_of d old →
@@ -98,7 +93,7 @@ either_way true b x y none = refl
 either_way false true x y none = absurd cc
 either_way false false x y none = refl
 
-unchanged_line : (component : Component) (qp bS : ℕ) (first last line : Line) → edge_changes component qp bS first last ≡ false →
+pub unchanged_line : (component : Component) (qp bS : ℕ) (first last line : Line) → edge_changes component qp bS first last ≡ false →
     edge_line component qp bS first last line ≡ line
 unchanged_line Luma qp bS first last line none = either_way (nat_eq bS 0) (is_filtered (beta qp) first last) line _ none
 unchanged_line Chroma qp bS first last line none = second_of_cond (nat_eq bS 2) _ line none
@@ -115,7 +110,7 @@ own_places s k y (suc (suc (suc (suc (suc (suc zero)))))) some less = ap (λ x. 
 own_places s k y (suc (suc (suc (suc (suc (suc (suc zero))))))) some less = ap (λ x. s x y) (omega arith)
 own_places s k y (suc (suc (suc (suc (suc (suc (suc (suc i)))))))) some less = absurd (omega arith)
 
-own_sample : (s : Samples) (k x y : ℕ) → 0 < k → 8 * k - 4 ≤ x → x < 8 * k + 4 → line_sample (line_at s k y) ((x + 4) % 8) ≡ s x y
+pub own_sample : (s : Samples) (k x y : ℕ) → 0 < k → 8 * k - 4 ≤ x → x < 8 * k + 4 → line_sample (line_at s k y) ((x + 4) % 8) ≡ s x y
 own_sample s k x y some from to =
     own_places s k y ((x + 4) % 8) some (omega arith) ∙ ap (λ c. s c y) (omega (arith, some, from, to))
 

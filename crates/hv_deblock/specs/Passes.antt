@@ -1,5 +1,5 @@
 -- What the steps of a pass leave: lines, segments of four lines, and edges.
-use Rattle.std.specs.Prelude.{Bool, not, nat_eq, ◌&&◌, ℕ, ◌+◌, ◌*◌, ◌/◌, ◌%◌}
+use Rattle.std.specs.Prelude.{◌≡◌, Bool, true, false, not, nat_eq, ◌&&◌, ℕ, ◌+◌, ◌*◌, ◌/◌, ◌%◌}
 use Rattle.hv_deblock_model.specs.declared.line.Line.{Line}
 use Rattle.hv_deblock_model.specs.EdgeStrength.{Squares, edge_strength}
 use Rattle.hv_deblock_model.specs.EdgeFilters.{beta, is_filtered, luma_edge, chroma_edge}
@@ -16,6 +16,11 @@ edge_line Chroma qp bS first last line = chroma_edge qp bS line
 abbrev pub edge_changes : Component → ℕ → ℕ → Line → Line → Bool
 edge_changes Luma qp bS first last = not (nat_eq bS 0) && is_filtered (beta qp) first last
 edge_changes Chroma qp bS first last = nat_eq bS 2
+
+-- whether no line of such a component changes
+abbrev pub is_still : Component → ℕ → Bool
+is_still Luma qp = nat_eq (beta qp) 0
+is_still Chroma qp = false
 
 -- the new sample in column x of row y, of the four rows from `top` on across edge k
 abbrev pub segment_sample : Component → ℕ → ℕ → ℕ → ℕ → Samples → Samples
@@ -34,6 +39,16 @@ filter_of Chroma qp = chroma_filter qp
 abbrev pub strength_of_four : Component → Squares → ℕ → ℕ → ℕ
 strength_of_four Luma squares k four = edge_strength squares k (four / 2)
 strength_of_four Chroma squares k four = edge_strength squares (2 * k) four
+
+-- whether these four rows are of one square with the four rows above
+abbrev pub is_second_four : Component → ℕ → Bool
+is_second_four Luma four = nat_eq (four % 2) 1
+is_second_four Chroma four = false
+
+-- where they are, their strength is this
+abbrev pub IsCarried : Component → Squares → ℕ → ℕ → ℕ → Type 0
+IsCarried component squares k four above =
+    is_second_four component four ≡ true → above ≡ strength_of_four component squares k four
 
 -- how many rows or columns of samples a square has
 abbrev pub scale : Component → ℕ

@@ -4,46 +4,13 @@ ghost use Rattle.std.specs.Prelude.{◌≡◌, ◌+◌, ◌-◌, ◌*◌, ◌^�
 ghost use Rattle.hv_types.specs.Samples.{IsWhole};
 ghost use Rattle.hv_deblock_model.specs.Deblocking.{pass};
 ghost use Rattle.hv_deblock.specs.Filled.{columns_of, rows_of, seen, first_of, second_of, samples_of, IsFilled, IsTurnedInto};
-ghost use Rattle.hv_deblock.specs.Passes.{segment_sample, strength_of_four, filter_of, scale};
+ghost use Rattle.hv_deblock.specs.Passes.{filter_of, scale};
 
 use crate::component::Component;
 use crate::direction::Edges;
 use crate::segment::filter_segment;
 use crate::squares::{CodedSquares, strength_of_four};
 use hv_types::Plane;
-
-/// Filters the four rows of this number across edge number `k`, and leaves every other sample.
-#[inline(always)]
-fn filter_four<E: Edges, S: CodedSquares>(
-    plane: &mut Plane,
-    component: Component,
-    qp: u8,
-    squares: &S,
-    k: u32,
-    four: u32,
-)
-    requires whole { IsWhole plane.old }
-    requires qp { qp ≤ 51 }
-    requires columns { columns_of E.direction plane.old ≡
-        scale component * first_of E.direction (S.columns squares.now) (S.rows squares.now) }
-    requires rows { rows_of E.direction plane.old ≡
-        scale component * second_of E.direction (S.columns squares.now) (S.rows squares.now) }
-    requires least { 0 < k }
-    requires k { 8 * k + 3 < columns_of E.direction plane.old }
-    requires fits { 8 * k + 3 < 2 ^ 32 }
-    requires four { 4 * four + 3 < rows_of E.direction plane.old }
-    requires fits_down { 4 * four + 3 < 2 ^ 32 }
-    ensures { IsFilled E.direction (8 * k - 4) (8 * k + 4) (4 * four) (4 * four + 4)
-        (segment_sample component qp
-        (strength_of_four component (seen E.direction (S.coding squares.now)) k four)
-        k (4 * four) (samples_of E.direction plane.old))
-        plane.old plane.new }
-{
-    let strength = strength_of_four::<E, S>(squares, component, k, four);
-    if strength > 0 {
-        filter_segment::<E>(plane, component, qp, strength, k, 4 * four);
-    }
-}
 
 /// Filters all rows across edge number `k`, and leaves every other sample.
 #[inline(always)]
@@ -70,8 +37,10 @@ fn filter_edge<E: Edges, S: CodedSquares>(
         plane.old plane.new }
 {
     let fours = E::rows(plane) / 4;
+    let mut strength = 0;
     for four in 0..fours {
-        filter_four::<E, S>(plane, component, qp, squares, k, four);
+        strength = strength_of_four::<E, S>(squares, component, k, four, strength);
+        filter_segment::<E>(plane, component, qp, strength, k, 4 * four);
     }
 }
 
@@ -95,6 +64,9 @@ pub(crate) fn pass<E: Edges, S: CodedSquares>(
         (samples_of E.direction plane.old))
         plane.old plane.new }
 {
+    if component.is_still(qp) {
+        return;
+    }
     let edges = E::columns(plane).div_ceil(8);
     for k in 1..edges {
         filter_edge::<E, S>(plane, component, qp, squares, k);

@@ -97,7 +97,7 @@ fn filter_chroma<E: Edges>(plane: &mut Plane, qp: u8, strength: u8, k: u32, top:
 }
 
 /// Filters four rows across edge number `k`, from row `top` on, by the quantiser of luma, 0 to 51,
-/// and the strength of the edge, 1 or 2. Every other sample is left.
+/// and the strength of the edge, 0 to 2. Every other sample is left.
 #[inline(always)]
 pub(crate) fn filter_segment<E: Edges>(
     plane: &mut Plane,
@@ -109,7 +109,6 @@ pub(crate) fn filter_segment<E: Edges>(
 )
     requires whole { IsWhole plane.old }
     requires qp { qp ≤ 51 }
-    requires some { 0 < strength }
     requires strength { strength ≤ 2 }
     requires least { 0 < k }
     requires k { 8 * k + 3 < columns_of E.direction plane.old }
@@ -120,6 +119,9 @@ pub(crate) fn filter_segment<E: Edges>(
         (segment_sample component qp strength k top (samples_of E.direction plane.old))
         plane.old plane.new }
 {
+    if strength == 0 {
+        return;
+    }
     match component {
         Component::Luma => filter_luma::<E>(plane, qp, strength, k, top),
         Component::Chroma => filter_chroma::<E>(plane, qp, strength, k, top),

@@ -3,7 +3,7 @@
 ghost use Rattle.std.specs.Prelude.{◌≡◌, ◌<◌, ◌≤◌, ◌*◌, ◌^◌, ℕ};
 ghost use Rattle.hv_deblock_model.specs.EdgeStrength.{Squares, edge_strength};
 ghost use Rattle.hv_deblock.specs.Filled.{seen, first_of, second_of};
-ghost use Rattle.hv_deblock.specs.Passes.{strength_of_four, scale};
+ghost use Rattle.hv_deblock.specs.Passes.{strength_of_four, IsCarried, scale};
 
 use crate::component::Component;
 use crate::direction::Edges;
@@ -48,13 +48,15 @@ fn edge_strength<E: Edges, S: CodedSquares>(squares: &S, column: u32, row: u32) 
     }
 }
 
-/// The strength of edge number `k` in the four rows of this number.
+/// The strength of edge number `k` in the four rows of this number, where `above` is that of the
+/// four rows above: a square of luma has eight rows, so that every second one is as above.
 #[inline(always)]
 pub(crate) fn strength_of_four<E: Edges, S: CodedSquares>(
     squares: &S,
     component: Component,
     k: u32,
     four: u32,
+    above: u8,
 ) -> u8
     requires least { 0 < k }
     requires k { 8 * k <
@@ -62,12 +64,20 @@ pub(crate) fn strength_of_four<E: Edges, S: CodedSquares>(
     requires fits { 8 * k < 2 ^ 32 }
     requires four { 4 * four <
         scale component * second_of E.direction (S.columns squares.now) (S.rows squares.now) }
+    requires above { IsCarried component (seen E.direction (S.coding squares.now)) k four above }
+    requires above_most { above ≤ 2 }
     ensures value { result ≡
         strength_of_four component (seen E.direction (S.coding squares.now)) k four }
     ensures most { result ≤ 2 }
 {
     match component {
-        Component::Luma => edge_strength::<E, S>(squares, k, four / 2),
+        Component::Luma => {
+            if four % 2 == 1 {
+                above
+            } else {
+                edge_strength::<E, S>(squares, k, four / 2)
+            }
+        }
         Component::Chroma => edge_strength::<E, S>(squares, 2 * k, four),
     }
 }

@@ -1,7 +1,7 @@
-use Rattle.std.proofs.Common.{◌+◌, ◌-◌, ◌*◌, arith}
+use Rattle.std.proofs.Common.{◌+◌, ◌-◌, ◌*◌, ◌∙◌, sym, arith}
 use Rattle.hv_deblock.specs.Filled.{columns_of, rows_of, seen}
 use Rattle.hv_deblock.specs.Passes.{filter_of}
-use Rattle.hv_deblock.proofs.PassLemmas.{edge_more, all_edges, side_by_fours}
+use Rattle.hv_deblock.proofs.PassLemmas.{edge_more, all_edges, side_by_fours, still_pass}
 use Rattle.hv_deblock.proofs.passes.pass.Goals as goal
 
 pub returns : goal.returns
@@ -23,3 +23,8 @@ loop-k-preserved g c =
     ))
     (omega arith) (omega arith) (side_by_fours c.args.component (rows_of g.E.Edges.direction c.args.plane.now) _ c.requires.rows)
     c.loop-k.invariant c.filter_edge.ensures
+
+pub returns-then-is_still : goal.returns-then-is_still
+returns-then-is_still g c =
+    still_pass c.args.component g.E.Edges.direction c.args.qp (seen g.E.Edges.direction (g.S.CodedSquares.coding c.args.squares.now))
+    c.args.plane.now (sym c.is_still.ensures ∙ c.if-is_still.true) c.requires.whole

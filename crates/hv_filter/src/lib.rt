@@ -7,5 +7,7 @@ mod component;
 mod join;
 mod picture;
 mod squares;
+#[cfg(test)]
+mod tests;
 
 pub use picture::filter_picture;

@@ -9,7 +9,7 @@ mod plan;
 mod samples;
 
 pub use block::{Block, Blocks};
-pub use edges::{address_of, Edges, Neighbours};
-pub use frame::{no_offsets, Frame};
+pub use edges::{Edges, Neighbours, address_of};
+pub use frame::{Frame, no_offsets};
 pub use plan::CtbPlan;
 pub use samples::Samples;

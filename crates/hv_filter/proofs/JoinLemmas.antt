@@ -70,8 +70,13 @@ all_filled n width height f plane all h =
     plane_is width height f plane h.whole
     (λ x y across down.
     h.samples x y across down
-    (omega (arith, all, row_fits_turned y width width height down (omega arith), across,
-    mul_comm width height)))
+    (omega (
+      arith,
+      all,
+      row_fits_turned y width width height down (omega arith),
+      across,
+      mul_comm width height,
+    )))
 
 -- what stands in a place is a sample of its block
 pub joined_at : (component : Component) (side across y column i : ℕ) (blocks : List Block)

@@ -11,13 +11,7 @@ use hv_sao::choose_sao;
 use hv_types::Picture;
 
 /// The choice for a block, which is none at effort 0.
-fn choose_block(
-    effort: u8,
-    qp: u8,
-    deblocked: &Picture,
-    input: &Picture,
-    number: u32,
-) -> SaoParam
+fn choose_block(effort: u8, qp: u8, deblocked: &Picture, input: &Picture, number: u32) -> SaoParam
     requires deblocked { IsPicture deblocked.now.luma.width deblocked.now.luma.height
         deblocked.now }
     requires input { IsPicture deblocked.now.luma.width deblocked.now.luma.height input.now }

@@ -106,7 +106,13 @@ pub(crate) fn join_picture<B: Blocks>(blocks: &B, picture: &mut Picture)
         (B.blocks blocks.now) }
 {
     let across = picture.luma.width().div_ceil(LUMA_SIDE);
-    join_plane(blocks, Component::Luma, LUMA_SIDE, across, &mut picture.luma);
+    join_plane(
+        blocks,
+        Component::Luma,
+        LUMA_SIDE,
+        across,
+        &mut picture.luma,
+    );
     join_plane(blocks, Component::Cb, CHROMA_SIDE, across, &mut picture.cb);
     join_plane(blocks, Component::Cr, CHROMA_SIDE, across, &mut picture.cr);
 }

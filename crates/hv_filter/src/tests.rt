@@ -121,8 +121,14 @@ fn a_step_between_blocks(rt: HostRuntime) -> Result<(), Fail> {
     if luma.len() < 576 || cb.len() < 144 || cr.len() < 144 {
         return Err("no such planes".into());
     }
-    assert_eq!(rt; &luma[60..68], [100, 100, 101, 103, 107, 109, 110, 110].as_slice());
-    assert_eq!(rt; &luma[564..572], [100, 100, 101, 103, 107, 109, 110, 110].as_slice());
+    assert_eq!(rt;
+        &luma[60..68],
+        [100, 100, 101, 103, 107, 109, 110, 110].as_slice()
+    );
+    assert_eq!(rt;
+        &luma[564..572],
+        [100, 100, 101, 103, 107, 109, 110, 110].as_slice()
+    );
     assert_eq!(rt; &cb[30..34], [100, 103, 107, 110].as_slice());
     assert_eq!(rt; &cr[138..142], [110, 107, 103, 100].as_slice());
     assert_eq!(rt; frame.working.luma.samples(), luma);

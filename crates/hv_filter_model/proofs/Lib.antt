@@ -4,3 +4,4 @@ pub mod CostLemmas
 mod WorkedBlocks
 mod WorkedOffsets
 mod WorkedChoices
+mod WorkedPictures

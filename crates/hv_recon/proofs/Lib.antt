@@ -1,4 +1,6 @@
 mod FilledLineLemmas
 mod LineLemmas
 mod PutRowLemmas
+mod PutUnitLemmas
 mod SumLemmas
+mod UnitLemmas

@@ -4,6 +4,7 @@
 
 mod around;
 mod put;
+mod shapes;
 mod sizes;
 mod transform_block;
 mod unit;

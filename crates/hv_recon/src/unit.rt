@@ -10,6 +10,7 @@ ghost use Rattle.hv_recon.specs.Views.{edges_of, around_of, spot_of};
 
 use crate::around::{SampleEdges, SamplesAround, View};
 use crate::put::put_block;
+use crate::shapes::{Spot, Unit};
 use crate::sizes::{area_of, side_of};
 use crate::transform_block::rebuild_intra;
 use hv_block::{CtbPlan, Edges, Neighbours, Samples};
@@ -113,23 +114,6 @@ fn cr_around(near: &Neighbours) -> SamplesAround<'_>
     }
 }
 
-/// How a transform block is predicted and scaled, and where it lies in a coding tree block: its
-/// address, its first column and row, and its side as a power of 2.
-#[derive(Clone, Copy)]
-pub struct Spot {
-    pub address: usize,
-    pub x: usize,
-    pub y: usize,
-    pub log2: u8,
-    pub mode: u8,
-    pub luma: bool,
-    pub qp: u8,
-    pub ghost least: { 2 ≤ log2 },
-    pub ghost most: { log2 ≤ 5 },
-    pub ghost mode_known: { mode ≤ 34 },
-    pub ghost quantiser: { qp ≤ 51 },
-}
-
 /// Rebuilds a transform block among the samples of a coding tree block, from those before its
 /// address and around.
 fn rebuild_block(view: &View<'_>, spot: Spot, levels: &[i16], samples: &mut [u8])
@@ -198,4 +182,64 @@ fn rebuild_cr(view: &View<'_>, spot: Spot, levels: &[i16], out: &mut Samples)
     ensures cb { out.new.cb ≡ out.old.cb }
 {
     rebuild_block(view, spot, levels, out.cr_mut());
+}
+
+/// The column of a square by its address in z-scan order (6.5.2).
+#[tactic(auto, unfolding(hv_unit_model::specs::Sites::column_of))]
+fn column_of(address: u8) -> usize
+    requires { address < 64 }
+    ensures value { result ≡ column_of address }
+    ensures small { result < 8 }
+{
+    usize::from(address % 2 + 2 * (address / 4 % 2) + 4 * (address / 16 % 2))
+}
+
+/// Its row.
+#[tactic(auto, unfolding(hv_unit_model::specs::Sites::row_of))]
+fn row_of(address: u8) -> usize
+    requires { address < 64 }
+    ensures value { result ≡ row_of address }
+    ensures small { result < 8 }
+{
+    usize::from(address / 2 % 2 + 2 * (address / 8 % 2) + 4 * (address / 32 % 2))
+}
+
+/// Rebuilds a transform unit (7.3.8.10, 8.4.4.1): its three blocks, each from the samples of its own
+/// component.
+pub fn rebuild_unit(
+    plan: &CtbPlan,
+    place: Place,
+    near: &Neighbours,
+    unit: Unit,
+    out: &mut Samples,
+)
+    requires { 0 < place.width }
+    ensures { IsUnitPut plan.now place near.now unit.size unit.address unit.mode unit.qp out.old
+        out.new }
+{
+    let (column, row) = (column_of(unit.address), row_of(unit.address));
+    let address = usize::from(unit.address);
+    let luma = Spot {
+        address,
+        x: 8 * column,
+        y: 8 * row,
+        log2: unit.size + 3,
+        mode: unit.mode,
+        luma: true,
+        qp: unit.qp,
+    };
+    let chroma = Spot {
+        address,
+        x: 4 * column,
+        y: 4 * row,
+        log2: unit.size + 2,
+        mode: unit.mode,
+        luma: false,
+        qp: chroma_qp(unit.qp),
+    };
+    let levels = &plan.luma()[64 * address..64 * address + area_of(luma.log2)];
+    rebuild_luma(&luma_view(place, near), luma, levels, out);
+    let (from, end) = (16 * address, 16 * address + area_of(chroma.log2));
+    rebuild_cb(&chroma_view(place, cb_around(near)), chroma, &plan.cb()[from..end], out);
+    rebuild_cr(&chroma_view(place, cr_around(near)), chroma, &plan.cr()[from..end], out);
 }

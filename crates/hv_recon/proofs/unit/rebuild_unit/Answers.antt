@@ -1,0 +1,98 @@
+use Rattle.std.proofs.Common.{◌≡◌, ℕ, ◌+◌, ◌-◌, ◌*◌, ◌^◌, ◌≤◌, true, false, List, take, drop, refl, sym, ap, ◌∙◌, arith}
+use Rattle.hv_unit_model.specs.Plans.{part}
+use Rattle.hv_recon.specs.Views.{around_of}
+use Rattle.hv_recon.proofs.UnitLemmas.{UnitEnds, unit_ends}
+use Rattle.hv_recon.proofs.PutUnitLemmas.{same_put}
+use Rattle.hv_recon.proofs.unit.rebuild_unit.Goals as goal
+
+pub slice_bounds-levels-end : goal.slice_bounds-levels-end
+slice_bounds-levels-end c =
+    let ends =
+    unit_ends c.args.unit.size c.args.unit.address c.args.unit.few c.args.unit.inside
+    c.args.unit.even in
+    omega (arith, ends.levels, c.area_of.ensures.square, c.from-address.ensures, c.luma.ensures.count)
+
+pub rebuild_luma-requires-clause-across : goal.rebuild_luma-requires-clause-across
+rebuild_luma-requires-clause-across c =
+    let ends =
+    unit_ends c.args.unit.size c.args.unit.address c.args.unit.few c.args.unit.inside
+    c.args.unit.even in
+    omega (arith, ends.right, c.column_of-column.ensures.value)
+
+pub rebuild_luma-requires-clause-down : goal.rebuild_luma-requires-clause-down
+rebuild_luma-requires-clause-down c =
+    let ends =
+    unit_ends c.args.unit.size c.args.unit.address c.args.unit.few c.args.unit.inside
+    c.args.unit.even in
+    omega (arith, ends.bottom, c.row_of-row.ensures.value)
+
+pub slice_bounds-rebuild_cb-end : goal.slice_bounds-rebuild_cb-end
+slice_bounds-rebuild_cb-end c =
+    let ends =
+    unit_ends c.args.unit.size c.args.unit.address c.args.unit.few c.args.unit.inside
+    c.args.unit.even in
+    omega (arith, ends.chroma_levels, c.area_of-2.ensures.square, c.from-address.ensures,
+    c.cb.ensures.count)
+
+pub rebuild_cb-requires-clause-across : goal.rebuild_cb-requires-clause-across
+rebuild_cb-requires-clause-across c =
+    let ends =
+    unit_ends c.args.unit.size c.args.unit.address c.args.unit.few c.args.unit.inside
+    c.args.unit.even in
+    omega (arith, ends.chroma_right, c.column_of-column.ensures.value)
+
+pub rebuild_cb-requires-clause-down : goal.rebuild_cb-requires-clause-down
+rebuild_cb-requires-clause-down c =
+    let ends =
+    unit_ends c.args.unit.size c.args.unit.address c.args.unit.few c.args.unit.inside
+    c.args.unit.even in
+    omega (arith, ends.chroma_bottom, c.row_of-row.ensures.value)
+
+pub rebuild_cr-requires-clause-across : goal.rebuild_cr-requires-clause-across
+rebuild_cr-requires-clause-across c =
+    let ends =
+    unit_ends c.args.unit.size c.args.unit.address c.args.unit.few c.args.unit.inside
+    c.args.unit.even in
+    omega (arith, ends.chroma_right, c.column_of-column.ensures.value)
+
+pub rebuild_cr-requires-clause-down : goal.rebuild_cr-requires-clause-down
+rebuild_cr-requires-clause-down c =
+    let ends =
+    unit_ends c.args.unit.size c.args.unit.address c.args.unit.few c.args.unit.inside
+    c.args.unit.even in
+    omega (arith, ends.chroma_bottom, c.row_of-row.ensures.value)
+
+pub returns : goal.returns
+returns c =
+    let size : ℕ = c.args.unit.size in
+    let mode : ℕ = c.args.unit.mode in
+    let column = c.column_of-column.ensures.value in
+    let row = c.row_of-row.ensures.value in
+    let address = c.from-address.ensures in
+    let area :
+    64 * c.from-address.result + c.area_of.result - 64 * c.from-address.result ≡
+    2 ^ (size + 3) * 2 ^ (size + 3) =
+    omega (arith, c.area_of.ensures.square) in
+    let chroma_area :
+    16 * c.from-address.result + c.area_of-2.result - 16 * c.from-address.result ≡
+    2 ^ (size + 2) * 2 ^ (size + 2) =
+    omega (arith, c.area_of-2.ensures.square) in
+    record {
+      luma = same_put 64 (size + 3) mode true _ _ _ _ _ _ _ _ _ _ _ _ _ _ _ _ _ _
+          (ap (λ v. 8 * v) column) (ap (λ v. 8 * v) row) refl
+          (λ i. take (area i) (drop (64 * address i) (c.luma.ensures.value i)))
+          c.luma_view.ensures.spot c.luma_view.ensures.around address refl
+          (sym (c.rebuild_cr.ensures.luma ∙ c.rebuild_cb.ensures.luma)) c.rebuild_luma.ensures.put;
+      cb = same_put 32 (size + 2) mode false _ _ _ _ _ _ _ _ _ _ _ _ _ _ _ _ _ _
+          (ap (λ v. 4 * v) column) (ap (λ v. 4 * v) row) c.chroma_qp.ensures.value
+          (λ i. take (chroma_area i) (drop (16 * address i) (c.cb.ensures.value i)))
+          c.chroma_view.ensures.spot (ap around_of c.chroma_view.ensures.around ∙ c.cb_around.ensures)
+          address c.rebuild_luma.ensures.cb (sym c.rebuild_cr.ensures.cb) c.rebuild_cb.ensures.put;
+      cr = same_put 32 (size + 2) mode false _ _ _ _ _ _ _ _ _ _ _ _ _ _ _ _ _ _
+          (ap (λ v. 4 * v) column) (ap (λ v. 4 * v) row) c.chroma_qp.ensures.value
+          (λ i. take (chroma_area i) (drop (16 * address i) (c.cr.ensures.value i)))
+          c.chroma_view-2.ensures.spot
+          (ap around_of c.chroma_view-2.ensures.around ∙ c.cr_around.ensures)
+          address (c.rebuild_cb.ensures.cr ∙ c.rebuild_luma.ensures.cr) refl
+          c.rebuild_cr.ensures.put;
+    }

@@ -68,58 +68,58 @@ four_turned out xs l room = λ x y column row.
 
 -- ---- a step
 -- what two runs of a block give, from their sample h on
-woven_place : (i h k m n : ℕ) (from : List ℕ) → m ≡ 16 → n ≡ 16 → 32 * (length from / 32) ≡ length from →
-    i < length from / 2 / 16 → h ≤ 8 → k < 16 →
-    woven (take m (drop (16 * i) from)) (take n (drop (length from / 2 + 16 * i) from)) h k ≡
-    get_or from (lowest_to_top (length from) (32 * i + 2 * h + k)) 0
-woven_place i h k m n from em en runs inside few below = go (cases_lt (k % 2) 1)
+woven_place : (area i h k m n : ℕ) (from : List ℕ) → length from ≡ area → m ≡ 16 → n ≡ 16 →
+    32 * (area / 32) ≡ area → i < area / 32 → h ≤ 8 → k < 16 →
+    woven (take m (drop (16 * i) from)) (take n (drop (area / 2 + 16 * i) from)) h k ≡
+    get_or from (lowest_to_top area (32 * i + 2 * h + k)) 0
+woven_place area i h k m n from all em en runs inside few below = go (cases_lt (k % 2) 1)
   where
     first : List ℕ
     first = take m (drop (16 * i) from)
 
     second : List ℕ
-    second = take n (drop (length from / 2 + 16 * i) from)
+    second = take n (drop (area / 2 + 16 * i) from)
 
     long : length first ≡ 16
-    long = length-part (16 * i) m from (omega (arith, em, runs, inside)) ∙ em
+    long = length-part (16 * i) m from (omega (arith, all, em, runs, inside)) ∙ em
 
-    go : (k % 2 < 1) ⊎ (1 ≤ k % 2) → woven first second h k ≡ get_or from (lowest_to_top (length from) (32 * i + 2 * h + k)) 0
+    go : (k % 2 < 1) ⊎ (1 ≤ k % 2) → woven first second h k ≡ get_or from (lowest_to_top area (32 * i + 2 * h + k)) 0
     go (inl even) =
         let none : (32 * i + 2 * h + k) % 2 ≡ 0 = omega (arith, even) in
         let place : 16 * (k % 2) + (h + k / 2) ≡ h + k / 2 = omega (arith, even) in
-        let target : 16 * i + (h + k / 2) ≡ 0 * (length from / 2) + (32 * i + 2 * h + k) / 2 = omega (arith, even) in
+        let target : 16 * i + (h + k / 2) ≡ 0 * (area / 2) + (32 * i + 2 * h + k) / 2 = omega (arith, even) in
         ap (λ j. get_or (first ++ second) j 0) place ∙
         get_or_append_left first second 0 (h + k / 2) (omega (arith, long, few, below)) ∙
         in_part (16 * i) m (h + k / 2) from (omega (arith, em, few, below)) ∙
         ap (λ j. get_or from j 0) target ∙
-        ap (λ b. get_or from (b * (length from / 2) + (32 * i + 2 * h + k) / 2) 0) (sym none)
+        ap (λ b. get_or from (b * (area / 2) + (32 * i + 2 * h + k) / 2) 0) (sym none)
     go (inr odd) =
         let one : (32 * i + 2 * h + k) % 2 ≡ 1 = omega (arith, odd) in
         let place : 16 * (k % 2) + (h + k / 2) ≡ 16 + (h + k / 2) = omega (arith, odd) in
-        let target : length from / 2 + 16 * i + (h + k / 2) ≡ 1 * (length from / 2) + (32 * i + 2 * h + k) / 2 = omega (arith, odd) in
+        let target : area / 2 + 16 * i + (h + k / 2) ≡ 1 * (area / 2) + (32 * i + 2 * h + k) / 2 = omega (arith, odd) in
         ap (λ j. get_or (first ++ second) j 0) place ∙
         get_or-append_right first second 16 (16 + (h + k / 2)) 0 long (omega arith) ∙
         ap (λ j. get_or second j 0) (omega arith) ∙
-        in_part (length from / 2 + 16 * i) n (h + k / 2) from (omega (arith, en, few, below)) ∙
+        in_part (area / 2 + 16 * i) n (h + k / 2) from (omega (arith, en, few, below)) ∙
         ap (λ j. get_or from j 0) target ∙
-        ap (λ b. get_or from (b * (length from / 2) + (32 * i + 2 * h + k) / 2) 0) (sym one)
+        ap (λ b. get_or from (b * (area / 2) + (32 * i + 2 * h + k) / 2) 0) (sym one)
 
-pub step_more : (i k l m n : ℕ) (from to part more : List ℕ) → m ≡ 16 → n ≡ 16 →
-    32 * (length from / 32) ≡ length from → i < length from / 2 / 16 → 32 * i ≤ length to →
+pub step_more : (area i k l m n : ℕ) (from to part more : List ℕ) → length from ≡ area → m ≡ 16 →
+    n ≡ 16 → 32 * (area / 32) ≡ area → i < area / 32 → 32 * i ≤ length to →
     length part ≡ 16 → length more ≡ 16 →
-    IsRow (32 * i) (λ j. get_or from (lowest_to_top (length from) j) 0) to →
-    IsRow 16 (woven (take m (drop (16 * i) from)) (take n (drop (length from / 2 + 16 * i) from)) 0) part →
-    IsRow 16 (woven (take m (drop (16 * i) from)) (take n (drop (length from / 2 + 16 * i) from)) 8) more →
-    IsRow (32 * i + 16 + 16) (λ j. get_or from (lowest_to_top (length from) j) 0)
+    IsRow (32 * i) (λ j. get_or from (lowest_to_top area j) 0) to →
+    IsRow 16 (woven (take m (drop (16 * i) from)) (take n (drop (area / 2 + 16 * i) from)) 0) part →
+    IsRow 16 (woven (take m (drop (16 * i) from)) (take n (drop (area / 2 + 16 * i) from)) 8) more →
+    IsRow (32 * i + 16 + 16) (λ j. get_or from (lowest_to_top area j) 0)
     (put_mid (32 * i + 16) l (put_mid (32 * i) k to part) more)
-step_more i k l m n from to part more em en runs inside room long longer old new newer =
-    row_parts (32 * i) 16 k l (32 * i + 16) (λ j. get_or from (lowest_to_top (length from) j) 0) to part more refl room long longer old
+step_more area i k l m n from to part more all em en runs inside room long longer old new newer =
+    row_parts (32 * i) 16 k l (32 * i + 16) (λ j. get_or from (lowest_to_top area j) 0) to part more refl room long longer old
     (λ x below.
-    new x below ∙ woven_place i 0 x m n from em en runs inside (omega arith) below ∙
-    ap (λ j. get_or from (lowest_to_top (length from) j) 0) (omega arith))
+    new x below ∙ woven_place area i 0 x m n from all em en runs inside (omega arith) below ∙
+    ap (λ j. get_or from (lowest_to_top area j) 0) (omega arith))
     (λ x below.
-    newer x below ∙ woven_place i 8 x m n from em en runs inside (omega arith) below ∙
-    ap (λ j. get_or from (lowest_to_top (length from) j) 0) (omega arith))
+    newer x below ∙ woven_place area i 8 x m n from all em en runs inside (omega arith) below ∙
+    ap (λ j. get_or from (lowest_to_top area j) 0) (omega arith))
 
 -- ---- two tiles, one beside the other
 pub of_left : (first second : List ℕ) (i k : ℕ) → k < 16 → of_tiles first second (32 * i + k) ≡ get_or first (16 * i + k) 0

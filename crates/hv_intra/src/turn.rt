@@ -55,17 +55,18 @@ fn weave_last(first: &[u8], second: &[u8], out: &mut [u8])
         .copy_to_slice(out);
 }
 
-/// Moves the lowest bit of each sample's place to the top.
+/// Moves the lowest bit of each sample's place to the top, in a block of AREA samples. That AREA is
+/// a constant lets the compiler keep a whole block in lanes.
 #[inline(always)]
-fn step(from: &[u8], to: &mut [u8])
-    requires runs { 32 * (length from.now / 32) ≡ length from.now }
-    requires most { length from.now ≤ 256 }
-    requires alike { length to.old ≡ length from.now }
-    ensures { IsRow (length from.now)
-        (λ j. slice_index from.now (lowest_to_top (length from.now) j)) to.new }
+fn step<const AREA: usize>(from: &[u8], to: &mut [u8])
+    requires area { length from.now ≡ AREA }
+    requires runs { 32 * (AREA / 32) ≡ AREA }
+    requires most { AREA ≤ 256 }
+    requires alike { length to.old ≡ AREA }
+    ensures { IsRow AREA (λ j. slice_index from.now (lowest_to_top AREA j)) to.new }
 {
-    let half = from.len() / 2;
-    for i in 0..half / 16 {
+    let half = AREA / 2;
+    for i in 0..AREA / 32 {
         let first = &from[16 * i..16 * i + 16];
         let second = &from[half + 16 * i..half + 16 * i + 16];
         weave_first(first, second, &mut to[32 * i..32 * i + 16]);
@@ -82,9 +83,9 @@ pub(crate) fn turn_8(columns: &[u8], out: &mut [u8])
 {
     let mut once = [0; 64];
     let mut twice = [0; 64];
-    step(columns, &mut once);
-    step(&once, &mut twice);
-    step(&twice, out);
+    step::<64>(columns, &mut once);
+    step::<64>(&once, &mut twice);
+    step::<64>(&twice, out);
 }
 
 /// A block of 16x16, turned.
@@ -97,10 +98,10 @@ pub(crate) fn turn_16(columns: &[u8], out: &mut [u8])
     let mut once = [0; 256];
     let mut twice = [0; 256];
     let mut thrice = [0; 256];
-    step(columns, &mut once);
-    step(&once, &mut twice);
-    step(&twice, &mut thrice);
-    step(&thrice, out);
+    step::<256>(columns, &mut once);
+    step::<256>(&once, &mut twice);
+    step::<256>(&twice, &mut thrice);
+    step::<256>(&thrice, out);
 }
 
 /// The sixteen columns of a block of 32x32 from one on, from a row on.

@@ -1,1 +1,2 @@
+mod OwnLemmas
 mod ScalingLemmas

@@ -3,7 +3,10 @@
 #![tactic(auto)]
 
 mod choice;
+mod prediction;
 mod scaling;
+mod squares;
 
 pub use choice::candidates_by;
+pub use prediction::candidates;
 pub use scaling::Distances;

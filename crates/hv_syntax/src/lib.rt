@@ -26,6 +26,7 @@ mod tests;
 mod transform;
 mod unit;
 
+pub use addresses::{address_of, column_of, row_of};
 pub use modes::most_probable;
 pub use naming::{names_its_node, names_its_units};
 pub use unit::{count_node, put_ctb};

@@ -1,4 +1,4 @@
-use Rattle.std.proofs.Common.{◌≡◌, ◌≤◌, subst, sym}
+use Rattle.std.proofs.Common.{◌≤◌, subst, sym}
 use Rattle.std.specs.Int.RustNames.{unsigned_abs}
 use Rattle.hv_amvp.proofs.ScalingLemmas.{product_most, product_is}
 use Rattle.hv_amvp.proofs.scaling.product.Goals as goal

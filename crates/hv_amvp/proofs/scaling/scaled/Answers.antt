@@ -1,9 +1,9 @@
-use Rattle.std.proofs.Common.{◌≡◌, ◌∙◌, ap₂, sym, rules, ℤ}
+use Rattle.std.proofs.Common.{◌∙◌, ap₂, sym, rules, ℤ}
 use Rattle.std.proofs.lemmas.Int.{to_z-of_z}
 use Rattle.std.specs.Int.RustNames.{FitsSigned}
 use mir.Syntax.{w8, w16, w32}
 use Rattle.hv_plan.specs.declared.prediction.Mv.{Mv}
-use Rattle.hv_vector_model.specs.VectorPrediction.{cut, distScaleFactor, scaled_component, scaled}
+use Rattle.hv_vector_model.specs.VectorPrediction.{distScaleFactor, scaled_component, scaled}
 use Rattle.hv_amvp.proofs.ScalingLemmas.{distance_is}
 use Rattle.hv_amvp.proofs.scaling.scaled.Goals as goal
 

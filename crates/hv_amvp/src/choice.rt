@@ -3,7 +3,7 @@
 ghost use Rattle.std.specs.Prelude.{◌≡◌, ◌∷◌, [], ◌++◌, take, option_map};
 ghost use Rattle.std.specs.Option.{option_or};
 ghost use Rattle.hv_vector_model.specs.VectorPrediction.{first_of, of_reference, same_reference, any_reference, scaled_for, left_squares, squares_above, isScaledFlagL0, mvL0A, mvL0B, no_vector, those_found, mvpListL0};
-ghost use Rattle.hv_amvp.specs.Entries.{entries, HasDistance, HaveDistances};
+ghost use Rattle.hv_amvp.specs.Entries.{entries};
 
 use crate::scaling::{Distances, scaled_for};
 use hv_plan::Mv;
@@ -51,7 +51,6 @@ fn vector_of(moving: Option<Moving>) -> Option<Mv>
 
 /// The vector of a square that moves, scaled for a unit of this reference.
 fn scaled_vector_of(distances: Distances, reference: u8, moving: Option<Moving>) -> Option<Mv>
-    requires { HasDistance distances moving }
     ensures { result ≡ option_map (scaled_for (entries distances) reference) moving }
 {
     match moving {
@@ -62,7 +61,6 @@ fn scaled_vector_of(distances: Distances, reference: u8, moving: Option<Moving>)
 
 /// The vector of the first square at the left with this reference; else of the first, scaled.
 fn left_vector(distances: Distances, reference: u8, n: Neighbourhood) -> Option<Mv>
-    requires { HaveDistances distances n }
     ensures { result ≡ option_or (same_reference reference (left_squares n))
         (any_reference (entries distances) reference (left_squares n)) }
 {
@@ -86,7 +84,6 @@ fn same_vector_above(reference: u8, n: Neighbourhood) -> Option<Mv>
 
 /// The vector of the first square above, scaled.
 fn any_vector_above(distances: Distances, reference: u8, n: Neighbourhood) -> Option<Mv>
-    requires { HaveDistances distances n }
     ensures { result ≡ any_reference (entries distances) reference (squares_above n) }
 {
     scaled_vector_of(distances, reference, first_of_three(n.b0, n.b1, n.b2))
@@ -108,7 +105,6 @@ fn two_of(a: Option<Mv>, b: Option<Mv>) -> [Mv; 2]
 
 /// The two candidates (`mvpListL0`) for the vector of a unit of this reference.
 pub fn candidates_by(distances: Distances, reference: u8, n: Neighbourhood) -> [Mv; 2]
-    requires { HaveDistances distances n }
     ensures { result ≡ mvpListL0 (entries distances) reference n }
 {
     let above = same_vector_above(reference, n);

@@ -6,6 +6,8 @@ mod choice;
 mod prediction;
 mod scaling;
 mod squares;
+#[cfg(test)]
+mod tests;
 
 pub use choice::candidates_by;
 pub use prediction::candidates;

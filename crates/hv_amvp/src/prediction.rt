@@ -7,7 +7,7 @@ ghost use Rattle.hv_syntax.specs.Neighbours.{lists_of_plan, around_of};
 ghost use Rattle.hv_syntax.specs.Squares.{Shows};
 ghost use Rattle.hv_vector_model.specs.VectorPrediction.{mvpListL0};
 ghost use Rattle.hv_vector_model.specs.Vectors.{neighbourhood_of, plan_with_vectors, around_with_vectors};
-ghost use Rattle.hv_amvp.specs.Entries.{entries, HaveDistances};
+ghost use Rattle.hv_amvp.specs.Entries.{entries};
 
 use crate::choice::candidates_by;
 use crate::scaling::Distances;
@@ -22,8 +22,8 @@ use hv_plan::{Mv, Place};
 /// They are those of the definition behind any squares coded earlier that are those of the plan's
 /// units at the addresses below the node's, with their vectors, so far as they are inside the
 /// picture (6.4.1). What the plan has from there on isn't read, and neither are differences of
-/// vectors. Each square of the five around the node that is predicted from another picture names an
-/// entry whose distance isn't 0. It takes no memory.
+/// vectors. A square that names an entry whose distance is 0, which no picture of list 0 has, gives
+/// a vector of 0 where it would be scaled. It takes no memory.
 pub fn candidates(
     near: &Neighbours,
     plan: &CtbPlan,
@@ -35,10 +35,6 @@ pub fn candidates(
 ) -> [Mv; 2]
     requires inside { address < 64 }
     requires size { size ≤ 3 }
-    requires read { (earlier : List Square) →
-        Shows place (plan_with_vectors (lists_of_plan plan.now)) address earlier →
-        HaveDistances distances (neighbourhood_of (look_around place
-        (around_with_vectors (around_of near.now))) size address earlier) }
     ensures { (earlier : List Square) →
         Shows place (plan_with_vectors (lists_of_plan plan.now)) address earlier →
         result ≡ mvpListL0 (entries distances) reference (neighbourhood_of (look_around place

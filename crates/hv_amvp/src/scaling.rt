@@ -1,10 +1,10 @@
 //! Scaling of vectors by the distances of pictures (8.5.3.2.7).
 
-ghost use Rattle.std.specs.Prelude.{◌≡◌, ◌≢◌, ◌+◌, ◌/◌, ◌≤◌, pos, neg_ℤ, ◌+ℤ◌, ◌*ℤ◌, unsigned_abs};
+ghost use Rattle.std.specs.Prelude.{◌≡◌, ◌+◌, ◌/◌, ◌≤◌, pos, neg_ℤ, ◌+ℤ◌, ◌*ℤ◌, unsigned_abs};
 ghost use Rattle.std.specs.Int.{int_shr, int_signum};
 ghost use Rattle.hv_lemmas.specs.Clipping.{clip3, clip16};
-ghost use Rattle.hv_vector_model.specs.VectorPrediction.{distance, cut, tx, distScaleFactor, scaled_component, scaled, scaled_for};
-ghost use Rattle.hv_amvp.specs.Entries.{entries, HasDistance};
+ghost use Rattle.hv_vector_model.specs.VectorPrediction.{tx, distScaleFactor, scaled_component, scaled, scaled_for};
+ghost use Rattle.hv_amvp.specs.Entries.{entries};
 
 use hv_plan::Mv;
 use hv_vector_model::Moving;
@@ -35,13 +35,15 @@ impl Distances {
     }
 }
 
-/// `tx`.
+/// `tx`: 0 where there is no distance.
 fn tx(td: i32) -> i32
-    requires some { td ≢ pos 0 }
-    requires most { unsigned_abs td ≤ 128 }
+    requires { unsigned_abs td ≤ 128 }
     ensures value { result ≡ tx td }
     ensures most { unsigned_abs result ≤ 16384 }
 {
+    if td == 0 {
+        return 0;
+    }
     (16384 + td.abs() / 2) / td
 }
 
@@ -73,7 +75,6 @@ fn cut_factor(value: i32) -> i32
 
 /// `DistScaleFactor`, in 256ths.
 fn scale_factor(tb: i32, td: i32) -> i32
-    requires some { td ≢ pos 0 }
     requires most_td { unsigned_abs td ≤ 128 }
     requires most_tb { unsigned_abs tb ≤ 128 }
     ensures value { result ≡ distScaleFactor tb td }
@@ -108,7 +109,6 @@ fn scaled_component(factor: i32, mv: i16) -> i16
 
 /// A vector over the distance `from`, scaled to reach over `to`.
 fn scaled(from: i8, to: i8, mv: Mv) -> Mv
-    requires { from ≢ pos 0 }
     ensures { result ≡ scaled from to mv }
 {
     let factor = scale_factor(i32::from(to), i32::from(from));
@@ -121,7 +121,6 @@ fn scaled(from: i8, to: i8, mv: Mv) -> Mv
 /// The vector of a square for a unit of this reference: as it is where the square has this
 /// reference too, else scaled.
 pub fn scaled_for(distances: Distances, reference: u8, moving: Moving) -> Mv
-    requires { distance (entries distances) moving.reference ≢ pos 0 }
     ensures { result ≡ scaled_for (entries distances) reference moving }
 {
     if moving.reference == reference {

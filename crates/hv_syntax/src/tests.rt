@@ -4,7 +4,10 @@ ghost use Rattle.std.specs.Prelude.{◌≡◌, ◌<◌};
 
 use crate::recorder::Bin::{Bypass, Coded, Terminate};
 use crate::recorder::{Bin, Compared, Recorder};
-use crate::{count_node, most_probable, names_its_node, names_its_units, put_ctb};
+use crate::{
+    address_of, column_of, count_node, most_probable, names_its_node, names_its_units, put_ctb,
+    row_of,
+};
 use hv_block::{Block, Edges, Neighbours};
 use hv_plan::{Mv, Node, Place, Pred, SaoComponent, SaoKind, SaoParam};
 use hv_types::CtxTable::{Merge, MvdGreater0, MvdGreater1, MvpFlag, PartMode, PredMode, PrevIntra, RootCbf, SaoType, Skip, Split};
@@ -384,5 +387,13 @@ fn counts(
 fn bins_are_counted(rt: HostRuntime) -> Result<(), Fail> {
     assert!(rt; counts(rt.alloc(), SliceKind::I, &MODES[12], 56, 4)?);
     assert!(rt; counts(rt.alloc(), SliceKind::P, &INTERS[0], 15, 3)?);
+    Ok(())
+}
+
+/// Column 5 is 101, and row 3 is 011: in turn, those of the column first, 011011.
+#[test]
+fn addresses_of_squares(rt: HostRuntime) -> Result<(), Fail> {
+    assert_eq!(rt; address_of(5, 3), 27);
+    assert_eq!(rt; (column_of(27), row_of(27)), (5, 3));
     Ok(())
 }

@@ -43,6 +43,9 @@ tx_of_minus_3 = refl
 tx_of_7 : tx (pos 7) ≡ pos 2341
 tx_of_7 = refl
 
+no_distance : tx (pos 0) ≡ pos 0
+no_distance = refl
+
 -- 12320 / 64, and -5429 / 64, which is rounded down
 three_quarters : distScaleFactor (pos 3) (pos 4) ≡ pos 192
 three_quarters = refl

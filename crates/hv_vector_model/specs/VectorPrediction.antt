@@ -24,6 +24,7 @@ distance distances RefIdx = slice_index_or distances RefIdx (pos 0)
 abbrev pub cut : ℤ → ℤ
 cut distance = clip3 (neg_ℤ (pos 128)) (pos 127) distance
 
+-- 0 where td is, which no picture of list 0 has
 abbrev pub tx : ℤ → ℤ
 tx td = int_div (pos (16384 + unsigned_abs td / 2)) td
 

@@ -1,7 +1,13 @@
--- What holds of each candidate holds of the first of least cost.
-use Rattle.std.proofs.Common.{ℕ, zero, suc, ◌<◌, Bool, true, false, cond, nat_lt, List, [], ◌∷◌, ◌++◌, arith}
+-- The first of least cost: with one candidate more, and that what holds of each candidate holds of
+-- it.
+use Rattle.std.proofs.Common.{◌≡◌, ℕ, zero, suc, ◌<◌, Bool, true, false, cond, nat_lt, List, [], ◌∷◌, ◌++◌, refl, arith}
 use Rattle.hv_lemmas.specs.Lists.{tabulate}
 use Rattle.hv_filter_model.specs.Costs.{cheaper, first_least}
+
+pub first_least_push : {A : Type 0} (f : A → ℕ) (x : A) (xs : List A) (y : A) →
+    first_least f x (xs ++ y ∷ []) ≡ cheaper f (first_least f x xs) y
+first_least_push f x [] y = refl
+first_least_push f x (z ∷ xs) y = first_least_push f (cheaper f x z) xs y
 
 abbrev pub Each : {A : Type 0} → (A → Type 0) → List A → Type 0
 Each P [] = Unit {0}

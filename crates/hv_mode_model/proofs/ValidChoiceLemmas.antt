@@ -117,7 +117,8 @@ further_are_modes effort = by_test (nat_lt effort 2)
     by_test true = (lit< tt, (lit< tt, (lit< tt, tt)))
     by_test false = each_tabulate IsMode 34 (λ mode. mode + 1) (λ i below. omega (arith, below))
 
-is_mode : (g : Given) (size address : ℕ) (before : Before) → IsMode (luma_mode g size address before)
+is_mode : (g : Given) (size address : ℕ) (before : Before) →
+    IsMode (luma_mode g size address before)
 unfolding luma_mode
 is_mode g size address before =
     first_least_keeps IsMode (score g size address before) planar (further_modes g.effort) (lit< tt)

@@ -2,7 +2,7 @@
 -- predicted, and its levels. H.265 leaves it free. A node is chosen behind what was chosen before,
 -- and the first of least cost is taken. So far intra prediction alone: inter prediction adds to the
 -- predictions that are tried, and changes nothing else.
-use Rattle.std.specs.Prelude.{ℕ, zero, suc, ◌+◌, ◌*◌, ◌/◌, ◌^◌, Bool, true, false, cond, nat_eq, nat_lt, List, [], ◌∷◌, ◌++◌, length, map, sum, slice_index_or, Option, Some, None, ℤ, pos, ◌-ℤ◌}
+use Rattle.std.specs.Prelude.{ℕ, zero, suc, ◌+◌, ◌*◌, ◌/◌, ◌^◌, Bool, true, false, cond, nat_eq, nat_lt, List, [], ◌∷◌, ◌++◌, length, map, sum, Option, Some, None, ℤ, pos, ◌-ℤ◌}
 use Rattle.std.specs.Int.{abs_diff}
 use Rattle.std.specs.Int.RustNames.{unsigned_abs}
 use Rattle.hv_lemmas.specs.Lists.{tabulate}
@@ -70,21 +70,21 @@ abbrev pub predicted_samples : Prediction → Bool → Component → Square → 
 predicted_samples prediction is_luma samples s =
     or_else [] (predicted_block prediction is_luma samples s)
 
--- input minus prediction in column x of row y of a block
-abbrev pub difference : Plane → Square → List ℕ → ℕ → ℕ → ℤ
-difference input s predicted x y =
-    pos (sample_at input (s.x + x) (s.y + y)) -ℤ
-    pos (slice_index_or predicted (y * 2 ^ s.log2 + x) 0)
+-- what a plane has of a block, by rows
+abbrev pub block_samples : Plane → Square → List ℕ
+block_samples plane s = square s.log2 (λ x y. sample_at plane (s.x + x) (s.y + y))
 
--- by rows
-abbrev pub differences : Plane → Square → List ℕ → List ℤ
-differences input s predicted = square s.log2 (difference input s predicted)
+-- input minus prediction, by rows
+abbrev pub differences : List ℕ → List ℕ → List ℤ
+differences [] predicted = []
+differences (a ∷ samples) [] = []
+differences (a ∷ samples) (p ∷ predicted) = (pos a -ℤ pos p) ∷ differences samples predicted
 
 -- the levels of a block, by rows: those of what its prediction leaves
 unfoldable pub chosen_levels : Prediction → Bool → ℕ → Plane → Component → Square → List ℤ
 chosen_levels prediction is_luma qp input samples s =
     levels s.log2 qp (is_intra prediction)
-    (differences input s (predicted_samples prediction is_luma samples s))
+    (differences (block_samples input s) (predicted_samples prediction is_luma samples s))
 
 -- those of a transform unit, each component predicted from its own samples
 abbrev pub chosen_unit : Given → Prediction → Square → Decoded → TransformUnit
@@ -130,7 +130,7 @@ first_block g size address =
 abbrev pub absolute_differences : Given → ℕ → ℕ → Before → ℕ → ℕ
 absolute_differences g size address before mode =
     let s = first_block g size address in
-    sum (map unsigned_abs (differences g.input.luma s
+    sum (map unsigned_abs (differences (block_samples g.input.luma s)
     (predicted_samples (Intra mode) true before.decoded.luma s)))
 
 -- how many bins the mode takes

@@ -5,6 +5,7 @@ use Rattle.hv_lemmas.proofs.ListLemmas.{tabulate_push}
 use Rattle.hv_plan.specs.declared.offsets.SaoKind.{SaoKind}
 use Rattle.hv_plan.specs.declared.offsets.SaoComponent.{SaoComponent}
 use Rattle.hv_filter_model.specs.Costs.{cost, cheaper, first_least}
+use Rattle.hv_filter_model.proofs.CostLemmas.{first_least_push}
 use Rattle.hv_filter_model.specs.OffsetBins.{type_bins, class_bins, own_bins}
 use Rattle.hv_filter_model.specs.OffsetDecision.{Block, Chroma, candidate, squared_errors, chroma_cost}
 use Rattle.hv_sao.specs.declared.candidate.Candidate.{Candidate}
@@ -12,11 +13,6 @@ use Rattle.hv_sao.specs.declared.price.Priced.{Priced}
 use Rattle.hv_sao.specs.declared.price.PricedPair.{PricedPair}
 use Rattle.hv_sao.specs.Decisions.{IsCandidate}
 use Rattle.hv_sao.specs.Prices.{luma_cost, own_cost, IsMade, IsBest, pair_of, IsBestPair}
-
-pub first_least_push : {A : Type 0} (f : A → ℕ) (x : A) (xs : List A) (y : A) →
-    first_least f x (xs ++ y ∷ []) ≡ cheaper f (first_least f x xs) y
-first_least_push f x [] y = refl
-first_least_push f x (z ∷ xs) y = first_least_push f (cheaper f x z) xs y
 
 pub pushed : {A : Type 0} (n m : ℕ) (f : ℕ → A) → m ≡ n + 1 → tabulate m f ≡ tabulate n f ++ f n ∷ []
 pushed n m f is = ap (λ k. tabulate k f) (is ∙ add-one n) ∙ tabulate_push n f

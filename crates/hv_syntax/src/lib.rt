@@ -27,6 +27,7 @@ mod transform;
 mod unit;
 
 pub use addresses::{address_of, column_of, row_of};
+pub use counting::count_luma_mode;
 pub use modes::most_probable;
 pub use naming::{names_its_node, names_its_units};
 pub use unit::{count_node, put_ctb};

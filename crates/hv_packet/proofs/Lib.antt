@@ -4,3 +4,4 @@ mod PuttingLemmas
 mod HeaderLemmas
 mod AroundLemmas
 mod PlannedLemmas
+mod OneBlockLemmas

@@ -1,10 +1,12 @@
 //! What no clause says: that units come out where there is memory, and the bytes of known ones. The
 //! bytes are those of another encoder, written by another hand, whose streams two decoders accept.
 
-ghost use Rattle.std.specs.Prelude.{◌≡◌};
+ghost use Rattle.std.specs.Prelude.{◌≡◌, ◌<◌, length, IfOk};
 
-use crate::picture_unit;
+use crate::{code_picture, picture_unit};
+use hv_block::Block;
 use hv_decision::{Group, Structure};
+use hv_plan::{SaoComponent, SaoKind, SaoParam};
 use hv_types::{Config, Emit, GroupInput, NoMemory, Settings};
 use std::alloc::Global;
 use std::process::Abort;
@@ -12,6 +14,8 @@ use std::test::Fail;
 
 /// Settings of this size and quantiser, of groups of so many pictures at effort 0.
 fn config_of(rt: &impl Abort, width: u32, height: u32, qp: u8, group: u8) -> Config
+    ensures width { result.width ≡ width }
+    ensures height { result.height ≡ height }
     ensures group { result.group ≡ group }
     ensures effort { result.effort ≡ 0 }
 {
@@ -47,22 +51,57 @@ fn unit_of(alloc: Global, config: &Config) -> Result<Vec<u8>, NoMemory>
     picture_unit(alloc, &group, 0)
 }
 
-/// The unit of the second of two black pictures of a group, if there is memory for it.
-fn second_unit_of(alloc: Global, config: &Config) -> Result<Vec<u8>, NoMemory>
+/// A group of two black pictures, if there is memory for it.
+fn group_of_two(alloc: Global, config: &Config) -> Result<Group, NoMemory>
     requires group { config.now.group ≡ 2 }
-    requires effort { config.now.effort ≡ 0 }
+    ensures config { IfOk result (λ group. group.input.config ≡ config.now) }
+    ensures count { IfOk result (λ group. length group.input.pictures ≡ 2) }
 {
     let raw = vec![in alloc; 0; config.picture_bytes() as usize]?;
     let mut input = GroupInput::new(alloc, *config)?;
     input.push(&raw)?;
     input.push(&raw)?;
     let structure = Structure::of(alloc, 2, config.settings().levels)?;
-    let group = Group {
+    Ok(Group {
         number: 0,
         input,
         structure,
-    };
+    })
+}
+
+/// The unit of the second of two black pictures of a group, if there is memory for it.
+fn second_unit_of(alloc: Global, config: &Config) -> Result<Vec<u8>, NoMemory>
+    requires group { config.now.group ≡ 2 }
+    requires effort { config.now.effort ≡ 0 }
+{
+    let group = group_of_two(alloc, config)?;
     picture_unit(alloc, &group, 1)
+}
+
+/// No sample of a component is offset.
+const NO_OFFSET: SaoComponent = SaoComponent {
+    kind: SaoKind::Off,
+    offsets: [0; 4],
+};
+
+/// The unit of one of two pictures of a group, from a block of one intra unit with DC prediction
+/// and without a level but 0, if there is memory for it.
+fn unit_from_block(alloc: Global, config: &Config, picture: u8) -> Result<Vec<u8>, NoMemory>
+    requires group { config.now.group ≡ 2 }
+    requires width { config.now.width ≡ 64 }
+    requires height { config.now.height ≡ 64 }
+    requires picture { picture < 2 }
+{
+    let group = group_of_two(alloc, config)?;
+    let block = Block::new(alloc)?;
+    let mut blocks = Vec::new(alloc);
+    blocks.push(block)?;
+    let sao = [SaoParam {
+        luma: NO_OFFSET,
+        cb: NO_OFFSET,
+        cr: NO_OFFSET,
+    }];
+    code_picture(alloc, &group, picture, &blocks, &sao)
 }
 
 /// The start code, the header of a unit with an IDR picture, and what its payload begins with.
@@ -131,4 +170,20 @@ fn answers_want_of_memory(rt: HostRuntime) {
             Some(known.as_slice())
         );
     }
+}
+
+/// A block of one unit stands for a picture in which nothing is chosen.
+#[test]
+fn units_from_a_block(rt: HostRuntime) -> Result<(), Fail> {
+    let config = config_of(&rt, 64, 64, 26, 2);
+    let known = [0xC0, 0xE8, 0x73, 0x7F, 0x80];
+    let first = unit_from_block(rt.alloc(), &config, 0)?;
+    assert_eq!(rt;
+        first.as_slice().strip_prefix(&FRONT),
+        Some(known.as_slice())
+    );
+    let second = unit_from_block(rt.alloc(), &config, 1)?;
+    let blank = second_unit_of(rt.alloc(), &config)?;
+    assert_eq!(rt; second.as_slice(), blank.as_slice());
+    Ok(())
 }

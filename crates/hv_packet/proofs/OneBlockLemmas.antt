@@ -13,7 +13,7 @@ use Rattle.hv_plan.specs.declared.prediction.Unit.{Unit}
 use Rattle.hv_block.specs.Plans.{opening_plan, opening_unit}
 use Rattle.hv_unit_model.specs.Trees.{Leaf, Intra, no_units, no_levels}
 use Rattle.hv_unit_model.specs.Sites.{site, sites, is_outside, crosses, column_of, row_of}
-use Rattle.hv_unit_model.specs.EarlierUnits.{Square, Unavailable, squares_of}
+use Rattle.hv_unit_model.specs.EarlierUnits.{Unavailable, squares_of}
 use Rattle.hv_unit_model.specs.Validity.{AreValid}
 use Rattle.hv_unit_model.specs.Plans.{Plan, tree_at, tree_of, coded_square, square_or_none, NamesItsUnits}
 use Rattle.hv_syntax.specs.Neighbours.{lists_of_plan}

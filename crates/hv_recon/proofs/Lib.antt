@@ -1,4 +1,6 @@
 mod FilledLineLemmas
+mod GreatLeafLemmas
+mod LeafLemmas
 mod LineLemmas
 mod PutRowLemmas
 mod PutUnitLemmas

@@ -35,3 +35,16 @@ pub record IsUnitPut
       (seen_line (chroma_spot place) (cr_around near) old.cr address (4 * column_of address)
       (4 * row_of address) (size + 2)))
       old.cr new.cr
+
+-- The samples behind each of the four transform units of a coding unit of 64x64, one after the
+-- other.
+pub record AreQuartersPut
+    (plan : CtbPlan) (place : Site) (near : Neighbours) (mode qp : ℕ) (old new : Samples) :
+    Type 0 where
+  pub first : Samples
+  pub second : Samples
+  pub third : Samples
+  pub first_put : IsUnitPut plan place near 2 0 mode qp old first
+  pub second_put : IsUnitPut plan place near 2 16 mode qp first second
+  pub third_put : IsUnitPut plan place near 2 32 mode qp second third
+  pub fourth_put : IsUnitPut plan place near 2 48 mode qp third new

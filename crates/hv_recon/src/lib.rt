@@ -3,6 +3,7 @@
 #![tactic(auto)]
 
 mod around;
+mod leaf;
 mod put;
 mod shapes;
 mod sizes;
@@ -10,4 +11,5 @@ mod transform_block;
 mod unit;
 mod view;
 
+pub use leaf::rebuild_leaf;
 pub use transform_block::rebuild_intra;

@@ -5,7 +5,6 @@ use Rattle.std.specs.Prelude.{nat_eq, nat_le, nat_lt, not, ◌&&◌, ◌||◌, O
 use Rattle.std.proofs.lemmas.Bool.{and_parts, eq-eqb, leb-true}
 use Rattle.std.proofs.lemmas.Bool.Decides.{nat_tests}
 use Rattle.std.proofs.Math.Nat.{pow-suc}
-use Rattle.hv_lemmas.specs.Booleans.{same}
 use Rattle.hv_lemmas.proofs.BooleanLemmas.{or_right}
 use Rattle.hv_lemmas.proofs.ComputedLemmas.{all_below, holds_below}
 use Rattle.hv_unit_model.specs.Trees.{Intra}
@@ -47,9 +46,13 @@ is_in_node size address column row =
     nat_le (column_of address) column && nat_lt column (column_of address + 2 ^ size) &&
     nat_le (row_of address) row && nat_lt row (row_of address + 2 ^ size)
 
+-- each follows from the other
+abbrev go_together : Bool → Bool → Bool
+go_together a b = (not a || b) && (not b || a)
+
 between_test : ℕ → ℕ → ℕ → ℕ → Bool
 between_test size address column row =
-    same (nat_lt (address_of column row) (address + squares size))
+    go_together (nat_lt (address_of column row) (address + squares size))
     (is_in_node size address column row || nat_lt (address_of column row) address) &&
     not (nat_lt (address_of column row) address && is_in_node size address column row)
 
@@ -73,11 +76,11 @@ nodes_of_2 : nodes_of_size 2 ≡ true
 unfolding nodes_of_size node_test between_test address_of column_of row_of
 nodes_of_2 = refl
 
-same_is : (a b : Bool) → same a b ≡ true → a ≡ b
-same_is true true h = refl
-same_is true false h = absurd cc
-same_is false true h = absurd cc
-same_is false false h = refl
+go_together_is : (a b : Bool) → go_together a b ≡ true → a ≡ b
+go_together_is true true h = refl
+go_together_is true false h = absurd cc
+go_together_is false true h = absurd cc
+go_together_is false false h = refl
 
 test_of : (size : ℕ) → size ≤ 2 → nodes_of_size size ≡ true
 test_of zero few = nodes_of_0
@@ -102,7 +105,7 @@ between_squares : (size address column row : ℕ) → size ≤ 2 → IsNode size
     is_in_node size address column row || nat_lt (address_of column row) address
 unfolding between_test
 between_squares size address column row few node across down =
-    same_is _ _ (and_parts _ _ (is_between size address column row few node across down)).0
+    go_together_is _ _ (and_parts _ _ (is_between size address column row few node across down)).0
 
 not_both : (a b : Bool) → not (a && b) ≡ true → a ≡ true → b ≡ false
 not_both true true h e = absurd cc

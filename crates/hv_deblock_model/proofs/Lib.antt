@@ -3,3 +3,4 @@ pub mod LineLemmas
 mod WorkedDeblocking
 mod WorkedEdges
 mod WorkedStrengths
+mod WorkedTrees

@@ -4,3 +4,4 @@ pub mod EdgeFilters
 pub mod EdgeStrength
 pub mod FlatPictures
 pub mod InLoopFilters
+pub mod TreeSquares

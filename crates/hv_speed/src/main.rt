@@ -3,7 +3,10 @@
 //! calls of a kernel of pictures, and one call of a kernel of bits.
 #![tactic(auto)]
 
+ghost use Rattle.hv_types.specs.Video.{IsPicture};
+
 mod bits;
+mod edges;
 mod inter;
 mod intra;
 mod kernel;
@@ -15,7 +18,8 @@ mod units;
 
 use anyhow::bail;
 use bits::BitKernel;
-use hv_types::NoMemory;
+use edges::{EdgeKernel, Edges, blank};
+use hv_types::{NoMemory, Picture};
 use inter::{InterKernel, Motion};
 use intra::{IntraKernel, Lines};
 use kernel::Kernel;
@@ -237,6 +241,39 @@ fn print_checksums_of_units(
     Ok(())
 }
 
+/// The sum of what `rounds` rounds of calls gave, modulo 2^64.
+fn checksum_of_edges(kernel: EdgeKernel, rounds: u32, picture: &mut Picture, edges: &Edges) -> u64
+    requires { IsPicture 256 256 picture.old }
+    ensures { IsPicture 256 256 picture.new }
+{
+    let mut sum = 0u64;
+    for _ in 0..rounds {
+        for _ in 0..CALLS {
+            sum = sum.wrapping_add(kernel.run(picture, edges));
+        }
+    }
+    sum
+}
+
+/// As `print_checksums`, for deblocking.
+fn print_checksums_of_edges(
+    rt: &impl Print,
+    alloc: Global,
+    kernels: &[EdgeKernel],
+    rounds: u32,
+) -> anyhow::Result<()> {
+    for kernel in kernels {
+        let Ok(mut picture) = blank(alloc) else {
+            bail!("not enough memory");
+        };
+        let edges = kernel.edges(alloc)?;
+        let sum = checksum_of_edges(*kernel, rounds, &mut picture, &edges);
+        let name = kernel.name();
+        println!(rt; "{name} {sum}")?;
+    }
+    Ok(())
+}
+
 fn main(rt: HostRuntime) -> anyhow::Result<()> {
     let mut words = env::args(&rt)?.skip(1);
     let (Some(name), Some(rounds)) = (words.next(), words.next()) else {
@@ -252,7 +289,8 @@ fn main(rt: HostRuntime) -> anyhow::Result<()> {
         print_checksums_of_inter(&rt, rt.alloc(), &InterKernel::ALL, rounds)?;
         print_checksums_of_transforms(&rt, rt.alloc(), &TransformKernel::ALL, rounds)?;
         print_checksums_of_levels(&rt, rt.alloc(), &LevelKernel::ALL, rounds)?;
-        return print_checksums_of_units(&rt, rt.alloc(), &UnitKernel::ALL, rounds);
+        print_checksums_of_units(&rt, rt.alloc(), &UnitKernel::ALL, rounds)?;
+        return print_checksums_of_edges(&rt, rt.alloc(), &EdgeKernel::ALL, rounds);
     }
     if let Some(kernel) = BitKernel::named(name.as_str()) {
         return print_checksums_of_bits(&rt, rt.alloc(), &[kernel], rounds);
@@ -271,6 +309,9 @@ fn main(rt: HostRuntime) -> anyhow::Result<()> {
     }
     if let Some(kernel) = UnitKernel::named(name.as_str()) {
         return print_checksums_of_units(&rt, rt.alloc(), &[kernel], rounds);
+    }
+    if let Some(kernel) = EdgeKernel::named(name.as_str()) {
+        return print_checksums_of_edges(&rt, rt.alloc(), &[kernel], rounds);
     }
     match Kernel::named(name.as_str()) {
         Some(kernel) => print_checksums(&rt, rt.alloc(), &[kernel], rounds),

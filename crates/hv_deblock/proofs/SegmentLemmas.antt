@@ -16,7 +16,7 @@ use Rattle.hv_deblock.specs.Lines.{KeepsOuter, lines_after}
 use Rattle.hv_deblock.specs.Passes.{edge_line, edge_changes, segment_sample}
 use Rattle.hv_deblock_model.proofs.LineLemmas.{line_same}
 use Rattle.hv_deblock.proofs.LineLemmas.{line_of, first_of_cond, second_of_cond, and_false}
-use Rattle.hv_deblock.proofs.FilledLemmas.{fill_below, fill_right, filled_same, kept_filled}
+use Rattle.hv_deblock.proofs.FilledLemmas.{fill_below, fill_right, filled_same, kept_filled, no_rows}
 
 -- a row below those that are filled is as before
 pub line_below : (d : Direction) (k top bottom y : ℕ) (f : Samples) (old mid : Plane) → 0 < k → 8 * k + 3 < columns_of d old →
@@ -26,24 +26,38 @@ line_below d k top bottom y f old mid some across after down h =
     line_same (samples_of d mid) (samples_of d old) k y some
     (λ x from to. h.below x y after (omega (arith, to, across)) down)
 
--- one line more of four
+-- one line more of four, of which all were read before
 pub line_more : (d : Direction) (k top y next : ℕ) (after : Line → Line) (line new_line : Line) (old mid new : Plane) →
-    0 < k → 8 * k + 3 < columns_of d old → top ≤ y → next ≡ y + 1 → y < rows_of d old →
-    line ≡ line_at (samples_of d mid) k y → new_line ≡ after line →
+    top ≤ y → next ≡ y + 1 → line ≡ line_at (samples_of d old) k y → new_line ≡ after line →
     IsFilled d (8 * k - 4) (8 * k + 4) top y (lines_after after k (samples_of d old)) old mid →
     IsFilled d (8 * k - 4) (8 * k + 4) y (y + 1) (λ a b. line_sample new_line ((a + 4) % 8)) mid new →
     IsFilled d (8 * k - 4) (8 * k + 4) top next (lines_after after k (samples_of d old)) old new
-line_more d k top y next after line new_line old mid new some across low is down is_line is_new h g =
+line_more d k top y next after line new_line old mid new low is is_line is_new h g =
     let f : Samples = lines_after after k (samples_of d old) in
-    let whole : new_line ≡ after (line_at (samples_of d old) k y) =
-    is_new ∙ ap after (is_line ∙ line_below d k top y y f old mid some across (omega arith) down h) in
     subst (λ n. IsFilled d (8 * k - 4) (8 * k + 4) top n f old new) (sym is)
     (fill_below d (8 * k - 4) (8 * k + 4) top y (y + 1) f old mid new low (omega arith) h
     (filled_same d (8 * k - 4) (8 * k + 4) y (y + 1) (λ a b. line_sample new_line ((a + 4) % 8)) f mid new
     (λ a b from to up below column row.
     let same : b ≡ y = omega arith in
-    ap (λ l. line_sample l ((a + 4) % 8)) whole ∙ ap (f a) (sym same))
+    ap (λ l. line_sample l ((a + 4) % 8)) (is_new ∙ ap after is_line) ∙ ap (f a) (sym same))
     g))
+
+pub line_first : (d : Direction) (k top : ℕ) (after : Line → Line) (line new_line : Line) (old new : Plane) → IsWhole old →
+    line ≡ line_at (samples_of d old) k top → new_line ≡ after line →
+    IsFilled d (8 * k - 4) (8 * k + 4) top (top + 1) (λ a b. line_sample new_line ((a + 4) % 8)) old new →
+    IsFilled d (8 * k - 4) (8 * k + 4) top (top + 1) (lines_after after k (samples_of d old)) old new
+line_first d k top after line new_line old new whole is_line is_new g =
+    line_more d k top top (top + 1) after line new_line old old new (omega arith) refl is_line is_new
+    (no_rows d (lines_after after k (samples_of d old)) old (8 * k - 4) (8 * k + 4) top whole) g
+
+-- the row that is put next is as it was read
+pub keeps_later : (d : Direction) (m margin k top y : ℕ) (f : Samples) (line new_line : Line) (old mid : Plane) → m ≡ margin → 0 < k →
+    8 * k + 3 < columns_of d old → y < rows_of d old → line ≡ line_at (samples_of d old) k y →
+    IsFilled d (8 * k - 4) (8 * k + 4) top y f old mid → KeepsOuter margin line new_line →
+    KeepsOuter m (line_at (samples_of d mid) k y) new_line
+keeps_later d m margin k top y f line new_line old mid same some across down is_line h kept =
+    subst (λ l. KeepsOuter m l new_line) (is_line ∙ sym (line_below d k top y y f old mid some across (omega arith) down h))
+    (subst (λ n. KeepsOuter n line new_line) (sym same) kept)
 
 -- lines that a filter was decided on for are a segment
 pub lines_as_segment : (component : Component) (d : Direction) (qp bS k top bottom : ℕ) (after : Line → Line) (first last : Line) (old new : Plane) →

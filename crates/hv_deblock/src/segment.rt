@@ -18,7 +18,8 @@ use hv_tables::chroma_qp;
 use hv_types::Plane;
 
 /// Filters four rows across edge number `k`, from row `top` on, each by this filter. Every other
-/// sample is left.
+/// sample is left. All rows are read before one is put, so that the compiler finds
+/// the place of each once.
 #[inline(always)]
 fn filter_lines<E: Edges, F: LineFilter>(plane: &mut Plane, filter: &F, k: u32, top: u32)
     requires whole { IsWhole plane.old }
@@ -31,11 +32,15 @@ fn filter_lines<E: Edges, F: LineFilter>(plane: &mut Plane, filter: &F, k: u32, 
         (lines_after (F.filtered filter.now) k (samples_of E.direction plane.old))
         plane.old plane.new }
 {
-    for i in 0..4 {
-        let line = load_line::<E>(plane, k, top + i);
-        let filtered = filter.filtered(line);
-        store_line::<E>(plane, filter.margin(), k, top + i, filtered);
-    }
+    let margin = filter.margin();
+    let first = load_line::<E>(plane, k, top);
+    let second = load_line::<E>(plane, k, top + 1);
+    let third = load_line::<E>(plane, k, top + 2);
+    let fourth = load_line::<E>(plane, k, top + 3);
+    store_line::<E>(plane, margin, k, top, filter.filtered(first));
+    store_line::<E>(plane, margin, k, top + 1, filter.filtered(second));
+    store_line::<E>(plane, margin, k, top + 2, filter.filtered(third));
+    store_line::<E>(plane, margin, k, top + 3, filter.filtered(fourth));
 }
 
 /// Filters four rows of luma.

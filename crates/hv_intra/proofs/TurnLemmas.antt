@@ -10,9 +10,9 @@ use lib.Seq.{take_all}
 use Rattle.hv_lemmas.proofs.ComputedLemmas.{holds_below}
 use Rattle.hv_lemmas.proofs.ComparisonLemmas.{lt_not_below}
 use Rattle.hv_intra.specs.Blocks.{IsRow, HasRows}
-use Rattle.hv_intra.specs.Turns.{lowest_to_top, woven, of_tiles}
+use Rattle.hv_intra.specs.Turns.{lowest_to_top, woven, in_turn, of_tiles}
 use borrow.Rule.Slice.PartMut.{put_mid}
-use Rattle.hv_intra.proofs.RowLemmas.{row_parts, in_part, length-part}
+use Rattle.hv_intra.proofs.RowLemmas.{row_part, row_parts, in_part, length-part}
 
 -- ---- a vector that was shuffled, and written
 abbrev pub picked : List ℕ → List ℕ → List ℕ
@@ -120,6 +120,64 @@ step_more area i k l m n from to part more all em en runs inside room long longe
     (λ x below.
     newer x below ∙ woven_place area i 8 x m n from all em en runs inside (omega arith) below ∙
     ap (λ j. get_or from (lowest_to_top area j) 0) (omega arith))
+
+-- ---- a step over a block of 8x8, by its rows
+abbrev row_order : List ℕ
+row_order = 0 ∷ 8 ∷ 1 ∷ 9 ∷ 2 ∷ 10 ∷ 3 ∷ 11 ∷ 4 ∷ 12 ∷ 5 ∷ 13 ∷ 6 ∷ 14 ∷ 7 ∷ 15 ∷ []
+
+row_order_is : (k : ℕ) → k < 16 → get_or row_order k 0 ≡ 8 * (k % 2) + k / 2
+row_order_is k below =
+    eqb-true _ _ (holds_below 16 (λ k. eqb (get_or row_order k 0) (8 * (k % 2) + k / 2)) refl k below)
+
+pub rows_woven : (out xs ys : List ℕ) → length xs ≡ 8 → length ys ≡ 8 → length out ≡ 16 →
+    IsRow 16 (in_turn xs ys) (put_chunk 0 out (picked (take 8 xs ++ take 8 ys) row_order))
+rows_woven out xs ys l m room = λ k below.
+    let whole : take 8 xs ++ take 8 ys ≡ xs ++ ys =
+    ap₂ (λ (v w : List ℕ). v ++ w) (take_all 8 xs (omega (arith, l))) (take_all 8 ys (omega (arith, m))) in
+    picked_at out (take 8 xs ++ take 8 ys) row_order k room below ∙
+    ap₂ (λ (v : List ℕ) (i : ℕ). get_or v i 0) whole (row_order_is k below)
+
+row_place : (i k m n : ℕ) (from : List ℕ) → length from ≡ 64 → m ≡ 8 → n ≡ 8 → i < 4 → k < 16 →
+    in_turn (take m (drop (8 * i) from)) (take n (drop (32 + 8 * i) from)) k ≡
+    get_or from (lowest_to_top 64 (16 * i + k)) 0
+row_place i k m n from all em en inside below = go (cases_lt (k % 2) 1)
+  where
+    first : List ℕ
+    first = take m (drop (8 * i) from)
+
+    second : List ℕ
+    second = take n (drop (32 + 8 * i) from)
+
+    long : length first ≡ 8
+    long = length-part (8 * i) m from (omega (arith, all, em, inside)) ∙ em
+
+    go : (k % 2 < 1) ⊎ (1 ≤ k % 2) →
+        in_turn first second k ≡ get_or from (lowest_to_top 64 (16 * i + k)) 0
+    go (inl even) =
+        let place : 8 * (k % 2) + k / 2 ≡ k / 2 = omega (arith, even) in
+        let target : 8 * i + k / 2 ≡ lowest_to_top 64 (16 * i + k) = omega (arith, even) in
+        ap (λ j. get_or (first ++ second) j 0) place ∙
+        get_or_append_left first second 0 (k / 2) (omega (arith, long, below)) ∙
+        in_part (8 * i) m (k / 2) from (omega (arith, em, below)) ∙
+        ap (λ j. get_or from j 0) target
+    go (inr odd) =
+        let place : 8 * (k % 2) + k / 2 ≡ 8 + k / 2 = omega (arith, odd) in
+        let target : 32 + 8 * i + k / 2 ≡ lowest_to_top 64 (16 * i + k) = omega (arith, odd) in
+        let there : 8 + k / 2 - 8 ≡ k / 2 = omega arith in
+        ap (λ j. get_or (first ++ second) j 0) place ∙
+        get_or-append_right first second 8 (8 + k / 2) 0 long (omega arith) ∙
+        ap (λ j. get_or second j 0) there ∙
+        in_part (32 + 8 * i) n (k / 2) from (omega (arith, en, below)) ∙
+        ap (λ j. get_or from j 0) target
+
+pub rows_more_woven : (i k m n : ℕ) (from to part : List ℕ) → length from ≡ 64 → m ≡ 8 → n ≡ 8 →
+    i < 4 → length to ≡ 64 → length part ≡ 16 →
+    IsRow (16 * i) (λ j. get_or from (lowest_to_top 64 j) 0) to →
+    IsRow 16 (in_turn (take m (drop (8 * i) from)) (take n (drop (32 + 8 * i) from))) part →
+    IsRow (16 * i + 16) (λ j. get_or from (lowest_to_top 64 j) 0) (put_mid (16 * i) k to part)
+rows_more_woven i k m n from to part all em en inside room long old new =
+    row_part (16 * i) 16 k (λ j. get_or from (lowest_to_top 64 j) 0) to part (omega (arith, room, inside)) long old
+    (λ x below. new x below ∙ row_place i x m n from all em en inside below)
 
 -- ---- two tiles, one beside the other
 pub of_left : (first second : List ℕ) (i k : ℕ) → k < 16 → of_tiles first second (32 * i + k) ≡ get_or first (16 * i + k) 0

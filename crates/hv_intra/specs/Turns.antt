@@ -9,6 +9,10 @@ lowest_to_top area j = j % 2 * (area / 2) + j / 2
 abbrev pub woven : List ℕ → List ℕ → ℕ → ℕ → ℕ
 woven first second from k = slice_index (first ++ second) (16 * (k % 2) + (from + k / 2))
 
+-- two rows of 8, in turn
+abbrev pub in_turn : List ℕ → List ℕ → ℕ → ℕ
+in_turn first second k = slice_index (first ++ second) (8 * (k % 2) + k / 2)
+
 -- the tile of a block of 32x32 that begins in a column and a row, by its columns
 abbrev pub of_tile : List ℕ → ℕ → ℕ → ℕ → ℕ
 of_tile columns column row j = slice_index columns (32 * (column + j / 16) + row + j % 16)

@@ -6,7 +6,7 @@
 
 ghost use Rattle.std.specs.Prelude.{◌≡◌, ℕ, ◌+◌, ◌*◌, ◌/◌, ◌%◌, ◌<◌, ◌≤◌, ◌++◌, length, slice_index};
 ghost use Rattle.hv_intra.specs.Blocks.{IsRow, HasRows};
-ghost use Rattle.hv_intra.specs.Turns.{lowest_to_top, woven, of_tile, of_tiles};
+ghost use Rattle.hv_intra.specs.Turns.{lowest_to_top, woven, in_turn, of_tile, of_tiles};
 
 use crate::lanes::copy_run;
 use std::simd::prelude::*;
@@ -74,6 +74,37 @@ fn step<const AREA: usize>(from: &[u8], to: &mut [u8])
     }
 }
 
+/// Two rows of 8 samples, in turn.
+#[inline(always)]
+fn weave_rows(first: &[u8], second: &[u8], out: &mut [u8])
+    requires first { length first.now ≡ 8 }
+    requires second { length second.now ≡ 8 }
+    requires room { length out.old ≡ 16 }
+    ensures { IsRow 16 (in_turn first.now second.now) out.new }
+{
+    u8x8::from_slice(first)
+        .shuffle(
+            u8x8::from_slice(second),
+            [0, 8, 1, 9, 2, 10, 3, 11, 4, 12, 5, 13, 6, 14, 7, 15],
+        )
+        .copy_to_slice(out);
+}
+
+/// A step over a block of 8x8, by its rows: they were stored one by one, and are loaded so.
+#[inline(always)]
+fn step_by_rows(from: &[u8], to: &mut [u8; 64])
+    requires { length from.now ≡ 64 }
+    ensures { IsRow 64 (λ j. slice_index from.now (lowest_to_top 64 j)) to.new }
+{
+    for i in 0..4 {
+        weave_rows(
+            &from[8 * i..8 * i + 8],
+            &from[32 + 8 * i..40 + 8 * i],
+            &mut to[16 * i..16 * i + 16],
+        );
+    }
+}
+
 /// A block of 8x8, turned.
 #[inline(always)]
 pub(crate) fn turn_8(columns: &[u8], out: &mut [u8])
@@ -83,7 +114,7 @@ pub(crate) fn turn_8(columns: &[u8], out: &mut [u8])
 {
     let mut once = [0; 64];
     let mut twice = [0; 64];
-    step::<64>(columns, &mut once);
+    step_by_rows(columns, &mut once);
     step::<64>(&once, &mut twice);
     step::<64>(&twice, out);
 }

@@ -1,7 +1,8 @@
 -- Intra_DC, lane by lane (8.4.4.2.5).
 use Rattle.std.proofs.Common.{◌≡◌, ℕ, zero, suc, ◌+◌, ◌-◌, ◌*◌, ◌/◌, ◌^◌, ◌<◌, ◌≤◌, false, List, []}
 use Rattle.std.proofs.Common.{◌∷◌, length, take, drop, map, replicate, get_or, cond, eqb, set, w8}
-use Rattle.std.proofs.Common.{get_or-set_same, get_or-set_other, refl, sym, ap, ap₂, ◌∙◌, arith, Fits}
+use Rattle.std.proofs.Common.{get_or-set_same, get_or-set_other, refl, sym, ap, ap₂, ◌∙◌, arith}
+use Rattle.std.proofs.Common.{Fits}
 use Rattle.std.specs.Simd.Lanes.{sum_l}
 use Rattle.std.proofs.lemmas.Bool.{ne_eqb}
 use Rattle.std.proofs.lemmas.List.{get_or-map, get_or-drop, length-map, length-drop}
@@ -80,7 +81,8 @@ mean_is log2 n m k a b line side long em ek ea eb =
     ap (λ s. (s + n) / 2 ^ (log2 + 1)) all ∙ ap (λ k. (total k + k) / 2 ^ (log2 + 1)) side
 
 -- ---- the edges
-edge_is : (more a : ℕ) → more ≤ 767 → a < 256 → narrow (down (plus (wide a) more) 2) ≡ edge_of more a
+edge_is : (more a : ℕ) → more ≤ 767 → a < 256 →
+    narrow (down (plus (wide a) more) 2) ≡ edge_of more a
 edge_is more a h k = omega arith
 
 pub edges_are : (n more : ℕ) (xs : List ℕ) → more ≤ 767 → length xs ≡ n → Each1 (Fits w8) xs →
@@ -137,7 +139,8 @@ edges_long n m a more out line lanes e inside o is =
     ap length (put_edges n m a more out line lanes e inside o is) ∙
     length-map ys (edge_of more) ∙ length-part a m line (omega (arith, e, inside)) ∙ e
 
-pub upper_row : (log2 n value corner : ℕ) (line row : List ℕ) → 1 ≤ n → n ≡ 2 ^ log2 → length row ≡ n →
+pub upper_row : (log2 n value corner : ℕ) (line row : List ℕ) → 1 ≤ n → n ≡ 2 ^ log2 →
+    length row ≡ n →
     corner ≡ (left log2 line 1 + 2 * value + above log2 line 1 + 2) / 4 →
     IsRow n (λ x. edge_of (3 * value + 2) (get_or line (2 * n + 1 + x) 0)) row →
     IsRow n (λ x. edged value log2 line x 0) (set row 0 corner)
@@ -167,5 +170,6 @@ lower_row n edge value row some long = λ x below.
         (omega (arith, length-replicate n value, some))
     go (suc x) below =
         let off : eqb (suc x) 0 ≡ false = ne_eqb (suc x) 0 (λ same. absurd (omega (arith, same))) in
-        get_or-set_other (replicate n value) 0 (suc x) edge 0 (λ same. absurd (omega (arith, same))) ∙
+        get_or-set_other (replicate n value) 0 (suc x) edge 0
+        (λ same. absurd (omega (arith, same))) ∙
         get_or-replicate n (suc x) value 0 below ∙ rw off refl

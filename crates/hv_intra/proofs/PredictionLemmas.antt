@@ -1,7 +1,9 @@
 -- Predicted blocks.
-use Rattle.std.proofs.Common.{◌≡◌, ℕ, ◌^◌, ◌≤◌, Bool, true, false, List, length, refl, ◌∙◌, cond, leb, not, ◌&&◌}
+use Rattle.std.proofs.Common.{◌≡◌, ℕ, ◌^◌, ◌≤◌, Bool, true, false, List, length, refl}
+use Rattle.std.proofs.Common.{◌∙◌, cond, leb, not, ◌&&◌}
 use Rattle.std.specs.Prelude.{nat_lt}
-use Rattle.hv_sample_model.specs.IntraPrediction.{filtered, smoothed, intraHorVerDistThres, minDistVerHor, by_mode, predicted}
+use Rattle.hv_sample_model.specs.IntraPrediction.{filtered, smoothed, intraHorVerDistThres}
+use Rattle.hv_sample_model.specs.IntraPrediction.{minDistVerHor, by_mode, predicted}
 use Rattle.hv_intra.specs.Blocks.{HasRows}
 use Rattle.hv_intra.proofs.RowLemmas.{block_is}
 use Rattle.hv_intra.proofs.SideLemmas.{square_of_side}
@@ -22,6 +24,7 @@ dc_unfiltered log2 false line = refl
 dc_unfiltered log2 true line = go (leb 3 log2)
   where
     go : (b : Bool) → line ≡
-        cond (true && b && not true && nat_lt (intraHorVerDistThres log2) (minDistVerHor 1)) (smoothed line) line
+        cond (true && b && not true && nat_lt (intraHorVerDistThres log2) (minDistVerHor 1))
+        (smoothed line) line
     go true = refl
     go false = refl

@@ -83,11 +83,13 @@ woven_place area i h k m n from all em en runs inside few below = go (cases_lt (
     long : length first ≡ 16
     long = length-part (16 * i) m from (omega (arith, all, em, runs, inside)) ∙ em
 
-    go : (k % 2 < 1) ⊎ (1 ≤ k % 2) → woven first second h k ≡ get_or from (lowest_to_top area (32 * i + 2 * h + k)) 0
+    go : (k % 2 < 1) ⊎ (1 ≤ k % 2) →
+        woven first second h k ≡ get_or from (lowest_to_top area (32 * i + 2 * h + k)) 0
     go (inl even) =
         let none : (32 * i + 2 * h + k) % 2 ≡ 0 = omega (arith, even) in
         let place : 16 * (k % 2) + (h + k / 2) ≡ h + k / 2 = omega (arith, even) in
-        let target : 16 * i + (h + k / 2) ≡ 0 * (area / 2) + (32 * i + 2 * h + k) / 2 = omega (arith, even) in
+        let target : 16 * i + (h + k / 2) ≡ 0 * (area / 2) + (32 * i + 2 * h + k) / 2 =
+        omega (arith, even) in
         ap (λ j. get_or (first ++ second) j 0) place ∙
         get_or_append_left first second 0 (h + k / 2) (omega (arith, long, few, below)) ∙
         in_part (16 * i) m (h + k / 2) from (omega (arith, em, few, below)) ∙
@@ -96,7 +98,8 @@ woven_place area i h k m n from all em en runs inside few below = go (cases_lt (
     go (inr odd) =
         let one : (32 * i + 2 * h + k) % 2 ≡ 1 = omega (arith, odd) in
         let place : 16 * (k % 2) + (h + k / 2) ≡ 16 + (h + k / 2) = omega (arith, odd) in
-        let target : area / 2 + 16 * i + (h + k / 2) ≡ 1 * (area / 2) + (32 * i + 2 * h + k) / 2 = omega (arith, odd) in
+        let target : area / 2 + 16 * i + (h + k / 2) ≡ 1 * (area / 2) + (32 * i + 2 * h + k) / 2 =
+        omega (arith, odd) in
         ap (λ j. get_or (first ++ second) j 0) place ∙
         get_or-append_right first second 16 (16 + (h + k / 2)) 0 long (omega arith) ∙
         ap (λ j. get_or second j 0) (omega arith) ∙
@@ -113,7 +116,8 @@ pub step_more : (area i k l m n : ℕ) (from to part more : List ℕ) → length
     IsRow (32 * i + 16 + 16) (λ j. get_or from (lowest_to_top area j) 0)
     (put_mid (32 * i + 16) l (put_mid (32 * i) k to part) more)
 step_more area i k l m n from to part more all em en runs inside room long longer old new newer =
-    row_parts (32 * i) 16 k l (32 * i + 16) (λ j. get_or from (lowest_to_top area j) 0) to part more refl room long longer old
+    row_parts (32 * i) 16 k l (32 * i + 16) (λ j. get_or from (lowest_to_top area j) 0) to part more
+    refl room long longer old
     (λ x below.
     new x below ∙ woven_place area i 0 x m n from all em en runs inside (omega arith) below ∙
     ap (λ j. get_or from (lowest_to_top area j) 0) (omega arith))
@@ -127,13 +131,15 @@ row_order = 0 ∷ 8 ∷ 1 ∷ 9 ∷ 2 ∷ 10 ∷ 3 ∷ 11 ∷ 4 ∷ 12 ∷ 5 ∷
 
 row_order_is : (k : ℕ) → k < 16 → get_or row_order k 0 ≡ 8 * (k % 2) + k / 2
 row_order_is k below =
-    eqb-true _ _ (holds_below 16 (λ k. eqb (get_or row_order k 0) (8 * (k % 2) + k / 2)) refl k below)
+    eqb-true _ _
+    (holds_below 16 (λ k. eqb (get_or row_order k 0) (8 * (k % 2) + k / 2)) refl k below)
 
 pub rows_woven : (out xs ys : List ℕ) → length xs ≡ 8 → length ys ≡ 8 → length out ≡ 16 →
     IsRow 16 (in_turn xs ys) (put_chunk 0 out (picked (take 8 xs ++ take 8 ys) row_order))
 rows_woven out xs ys l m room = λ k below.
     let whole : take 8 xs ++ take 8 ys ≡ xs ++ ys =
-    ap₂ (λ (v w : List ℕ). v ++ w) (take_all 8 xs (omega (arith, l))) (take_all 8 ys (omega (arith, m))) in
+    ap₂ (λ (v w : List ℕ). v ++ w) (take_all 8 xs (omega (arith, l)))
+    (take_all 8 ys (omega (arith, m))) in
     picked_at out (take 8 xs ++ take 8 ys) row_order k room below ∙
     ap₂ (λ (v : List ℕ) (i : ℕ). get_or v i 0) whole (row_order_is k below)
 
@@ -176,7 +182,8 @@ pub rows_more_woven : (i k m n : ℕ) (from to part : List ℕ) → length from 
     IsRow 16 (in_turn (take m (drop (8 * i) from)) (take n (drop (32 + 8 * i) from))) part →
     IsRow (16 * i + 16) (λ j. get_or from (lowest_to_top 64 j) 0) (put_mid (16 * i) k to part)
 rows_more_woven i k m n from to part all em en inside room long old new =
-    row_part (16 * i) 16 k (λ j. get_or from (lowest_to_top 64 j) 0) to part (omega (arith, room, inside)) long old
+    row_part (16 * i) 16 k (λ j. get_or from (lowest_to_top 64 j) 0) to part
+    (omega (arith, room, inside)) long old
     (λ x below. new x below ∙ row_place i x m n from all em en inside below)
 
 -- ---- two tiles, one beside the other

@@ -1,5 +1,5 @@
-//! Candidates worked by hand. Entry 0 of list 0 is 4 pictures before the current one, and entry 1 is
-//! 2 pictures behind it.
+//! Candidates worked by hand. Entry 0 of list 0 is 4 pictures before the current one, and entry 1
+//! is 2 pictures behind it.
 use super::*;
 use hv_block::{Block, Neighbours};
 use hv_plan::{Mv, Place, Pred};

@@ -15,7 +15,7 @@ use Rattle.hv_vector_model.specs.Vectors.{moved_by, tree_with_vectors, trees_wit
 abbrev minus : ℕ → ℤ
 minus n = neg_ℤ (pos n)
 
-vector : ℤ → ℤ → Mv
+abbrev vector : ℤ → ℤ → Mv
 vector x y = record { x = x; y = y }
 
 -- ---- scaling
@@ -86,31 +86,31 @@ before_the_cut = refl
 
 -- (10, -7) from -4 to 4 and to 3, and both the other way
 opposite : scaled (minus 4) (pos 4) (vector (pos 10) (minus 7)) ≡ vector (minus 10) (pos 7)
-unfolding scaled vector
+unfolding scaled
 opposite = refl
 
 opposite_and_shorter :
     scaled (minus 4) (pos 3) (vector (pos 10) (minus 7)) ≡ vector (minus 7) (pos 5)
-unfolding scaled vector
+unfolding scaled
 opposite_and_shorter = refl
 
 shorter : scaled (pos 4) (pos 3) (vector (pos 10) (minus 7)) ≡ vector (pos 7) (minus 5)
-unfolding scaled vector
+unfolding scaled
 shorter = refl
 
 from_front_to_back :
     scaled (pos 4) (minus 2) (vector (pos 10) (minus 7)) ≡ vector (minus 5) (pos 3)
-unfolding scaled vector
+unfolding scaled
 from_front_to_back = refl
 
 -- from 200, which is cut to 127, to 100
 far : scaled (pos 200) (pos 100) (vector (pos 1000) (minus 1000)) ≡ vector (pos 789) (minus 789)
-unfolding scaled vector
+unfolding scaled
 far = refl
 
 -- ---- candidates: entry 0 is 4 pictures before, entry 1 is 2 pictures behind
 
-distances : Distances
+abbrev distances : Distances
 distances = pos 4 ∷ minus 2 ∷ []
 
 moving : ℕ → ℤ → ℤ → Option Moving
@@ -128,19 +128,19 @@ zero : Mv
 zero = vector (pos 0) (pos 0)
 
 nothing_moves : candidates (around None None None None None) ≡ zero ∷ zero ∷ []
-unfolding candidates around distances distance scaled zero vector
+unfolding candidates around distance scaled zero
 nothing_moves = refl
 
 a0_goes_first :
     candidates (around (moving 0 (pos 1) (pos 2)) (moving 0 (pos 3) (pos 4)) None None None) ≡
     vector (pos 1) (pos 2) ∷ zero ∷ []
-unfolding candidates around distances distance scaled moving zero vector
+unfolding candidates around distance scaled moving zero
 a0_goes_first = refl
 
 same_reference_goes_first :
     candidates (around (moving 1 (pos 1) (pos 2)) (moving 0 (pos 3) (pos 4)) None None None) ≡
     vector (pos 3) (pos 4) ∷ zero ∷ []
-unfolding candidates around distances distance scaled moving zero vector
+unfolding candidates around distance scaled moving zero
 same_reference_goes_first = refl
 
 -- by -2
@@ -148,13 +148,13 @@ a0_is_scaled :
     candidates
     (around (moving 1 (pos 5) (minus 3)) (moving 1 (pos 3) (pos 4)) None None None) ≡
     vector (minus 10) (pos 6) ∷ zero ∷ []
-unfolding candidates around distances distance scaled moving zero vector
+unfolding candidates around distance scaled moving zero
 a0_is_scaled = refl
 
 a1_is_scaled :
     candidates (around None (moving 1 (pos 5) (minus 3)) None None None) ≡
     vector (minus 10) (pos 6) ∷ zero ∷ []
-unfolding candidates around distances distance scaled moving zero vector
+unfolding candidates around distance scaled moving zero
 a1_is_scaled = refl
 
 both_are_found :
@@ -162,7 +162,7 @@ both_are_found :
     (around (moving 0 (pos 1) (pos 2)) None (moving 1 (pos 9) (pos 9)) (moving 0 (pos 3) (pos 4))
     (moving 0 (pos 7) (pos 7))) ≡
     vector (pos 1) (pos 2) ∷ vector (pos 3) (pos 4) ∷ []
-unfolding candidates around distances distance scaled moving zero vector
+unfolding candidates around distance scaled moving zero
 both_are_found = refl
 
 -- those above aren't scaled where one at the left moves, even if that is scaled
@@ -170,21 +170,21 @@ b_is_not_scaled :
     candidates
     (around None (moving 1 (pos 5) (minus 3)) (moving 1 (pos 9) (pos 9)) None None) ≡
     vector (minus 10) (pos 6) ∷ zero ∷ []
-unfolding candidates around distances distance scaled moving zero vector
+unfolding candidates around distance scaled moving zero
 b_is_not_scaled = refl
 
 equal_ones :
     candidates
     (around (moving 0 (pos 1) (pos 2)) None None None (moving 0 (pos 1) (pos 2))) ≡
     vector (pos 1) (pos 2) ∷ zero ∷ []
-unfolding candidates around distances distance scaled moving zero vector
+unfolding candidates around distance scaled moving zero
 equal_ones = refl
 
 equal_in_one_component :
     candidates
     (around (moving 0 (pos 1) (pos 2)) None None None (moving 0 (pos 1) (pos 3))) ≡
     vector (pos 1) (pos 2) ∷ vector (pos 1) (pos 3) ∷ []
-unfolding candidates around distances distance scaled moving zero vector
+unfolding candidates around distance scaled moving zero
 equal_in_one_component = refl
 
 -- Nothing at the left: A takes B1, whose reference is the same, and B is B0, scaled.
@@ -192,14 +192,14 @@ a_takes_b :
     candidates
     (around None None (moving 1 (pos 5) (minus 3)) (moving 0 (pos 3) (pos 4)) None) ≡
     vector (pos 3) (pos 4) ∷ vector (minus 10) (pos 6) ∷ []
-unfolding candidates around distances distance scaled moving zero vector
+unfolding candidates around distance scaled moving zero
 a_takes_b = refl
 
 -- B is B2 again, and equals A
 a_takes_b2 :
     candidates (around None None None None (moving 0 (pos 3) (pos 4))) ≡
     vector (pos 3) (pos 4) ∷ zero ∷ []
-unfolding candidates around distances distance scaled moving zero vector
+unfolding candidates around distance scaled moving zero
 a_takes_b2 = refl
 
 -- B alone, scaled
@@ -207,14 +207,14 @@ b1_is_scaled :
     candidates
     (around None None None (moving 1 (pos 5) (minus 3)) (moving 1 (pos 9) (pos 9))) ≡
     vector (minus 10) (pos 6) ∷ zero ∷ []
-unfolding candidates around distances distance scaled moving zero vector
+unfolding candidates around distance scaled moving zero
 b1_is_scaled = refl
 
 -- for entry 1, by -1/2
 for_the_other :
     mvpListL0 distances 1 (around (moving 0 (pos 10) (minus 7)) None None None None) ≡
     vector (minus 5) (pos 3) ∷ zero ∷ []
-unfolding around distances distance scaled moving zero vector
+unfolding around distance scaled moving zero
 for_the_other = refl
 
 -- ---- vectors
@@ -223,36 +223,36 @@ for_the_other = refl
 modulo_2_to_the_16 :
     moved_by (vector (pos 32767) (minus 32768)) (vector (pos 1) (minus 1)) ≡
     vector (minus 32768) (pos 32767)
-unfolding vector int_wrap
+unfolding int_wrap
 modulo_2_to_the_16 = refl
 
-inter : ℕ → ℤ → ℤ → Tree
+abbrev inter : ℕ → ℤ → ℤ → Tree
 inter flag x y =
     Leaf (Inter (record { ref_idx_l0 = 0; mvp_l0_flag = flag; MvdL0 = vector x y })) []
 
 -- Four units of 32x32. The second has the first at its left, and the third below isn't decoded yet.
 -- The third has the second at B0 and the first at B1, so its second candidate is zero; the fourth
 -- has the third at A1, and the second at B1.
-coded : Tree
+abbrev coded : Tree
 coded =
     Split (inter 0 (pos 8) (pos 4)) (inter 0 (pos 1) (pos 1)) (inter 1 (pos 2) (minus 3))
     (inter 1 (pos 0) (pos 1))
 
-moved : Tree
+abbrev moved : Tree
 moved =
     Split (inter 0 (pos 8) (pos 4)) (inter 0 (pos 9) (pos 5)) (inter 1 (pos 2) (minus 3))
     (inter 1 (pos 9) (pos 6))
 
 four_units : tree_with_vectors distances (look_picture (site 64 64 0) []) 3 0 [] coded ≡ moved
-unfolding tree_with_vectors look_picture address_of column_of row_of int_wrap coded moved inter distances vector
+unfolding tree_with_vectors look_picture address_of column_of row_of int_wrap
 four_units = refl
 
 -- A block of one unit behind it has the fourth at A1, and nothing else.
-behind_it : Tree
+abbrev behind_it : Tree
 behind_it = inter 0 (pos 1) (pos 0)
 
 two_blocks :
     trees_with_vectors distances (site 128 64 0 ∷ site 128 64 1 ∷ []) []
     (coded ∷ behind_it ∷ []) ≡ moved ∷ inter 0 (pos 10) (pos 6) ∷ []
-unfolding trees_with_vectors tree_with_vectors look_picture address_of column_of row_of int_wrap coded moved behind_it inter distances vector
+unfolding trees_with_vectors tree_with_vectors look_picture address_of column_of row_of int_wrap
 two_blocks = refl

@@ -1,5 +1,5 @@
 -- Samples that are counted one after another.
-use Rattle.std.proofs.Common.{◌≡◌, ◌≢◌, ℕ, suc, ◌+◌, ◌<◌, ◌≤◌, cond, nat_lt, ⊎_elim, List, [], ◌∷◌, ◌++◌, length, get_or, slice_set, ℤ, pos, ◌+ℤ◌, ◌-ℤ◌, refl, sym, ◌∙◌, ap, ap₂, subst, arith, add-one, length-set, append-nil, append_assoc, replicate, zero}
+use Rattle.std.proofs.Common.{◌≡◌, ℕ, suc, ◌+◌, ◌<◌, ◌≤◌, cond, nat_lt, ⊎_elim, List, [], ◌∷◌, ◌++◌, length, get_or, slice_set, ℤ, pos, ◌+ℤ◌, ◌-ℤ◌, refl, sym, ◌∙◌, ap, ap₂, subst, arith, add-one, length-set, append-nil, append_assoc, replicate, zero}
 use Rattle.hv_filter_model.specs.OffsetDecision.{Block, difference}
 use Rattle.hv_sao.specs.Decisions.{Counts, edge_key, edge_key_at}
 use Rattle.std.specs.List.{flat_map, sum_by}

@@ -1,5 +1,5 @@
 -- Neighbours of samples, and which samples lack one (8.7.3.2).
-use Rattle.std.proofs.Common.{◌≡◌, ◌≢◌, ℕ, zero, suc, ◌+◌, ◌-◌, ◌<◌, ◌≤◌, false, not, ◌&&◌, ◌⊎◌, ⊎_elim, refl, ◌∙◌, ap, ap₂, arith, Option, Some, None, ℤ, pos, negsuc, ◌+ℤ◌, nat_eq, List, length, min, max, sym, get_or}
+use Rattle.std.proofs.Common.{◌≡◌, ◌≢◌, ℕ, zero, suc, ◌+◌, ◌-◌, ◌<◌, ◌≤◌, false, not, ◌⊎◌, ⊎_elim, refl, ◌∙◌, ap, ap₂, arith, Option, Some, None, ℤ, pos, negsuc, ◌+ℤ◌, nat_eq, List, length, min, max, sym, get_or}
 use Rattle.std.proofs.lemmas.Bool.{cases_eq, cases_lt}
 use mir.Val.{bool_byte}
 use Rattle.std.proofs.lemmas.Bool.Decides.{eqb_tells}

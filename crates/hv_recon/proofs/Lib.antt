@@ -4,5 +4,6 @@ mod LeafLemmas
 mod LineLemmas
 mod PutRowLemmas
 mod PutUnitLemmas
+pub mod NodeLemmas
 mod SumLemmas
 mod UnitLemmas

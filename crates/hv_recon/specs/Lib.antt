@@ -1,3 +1,4 @@
+pub mod DecodedNodes
 pub mod Leaves
 pub mod Rows
 pub mod Units

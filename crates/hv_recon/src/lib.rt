@@ -7,9 +7,14 @@ mod leaf;
 mod put;
 mod shapes;
 mod sizes;
+mod node_laws;
 mod transform_block;
 mod unit;
 mod view;
 
 pub use leaf::rebuild_leaf;
+pub use node_laws::{
+    greatest_nodes_are_blocks, leaves_decode_as_nodes, nodes_outside_decode_nothing,
+    split_nodes_decode_by_children,
+};
 pub use transform_block::rebuild_intra;

@@ -157,10 +157,10 @@ cover_four width height left top m n d double a b c e = record {
       high = inside.high;
     }
 
-abbrev Step : Type 0
+abbrev pub Step : Type 0
 Step = Decoded → Option Decoded
 
-and_then : (f : Step) (r : Option Decoded) (e g : Decoded) → r ≡ Some e → f e ≡ Some g →
+pub and_then : (f : Step) (r : Option Decoded) (e g : Decoded) → r ≡ Some e → f e ≡ Some g →
     option_and_then f r ≡ Some g
 and_then f r e g first second = ap (option_and_then f) first ∙ second
 

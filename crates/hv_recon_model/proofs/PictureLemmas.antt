@@ -13,11 +13,11 @@ use Rattle.hv_recon_model.specs.Reconstruction.{Decoded, nothing_decoded, decode
 use Rattle.hv_recon_model.specs.ReconstructionLaws.{AreTrees, EverySampleIsDecoded}
 use Rattle.hv_recon_model.proofs.DecodedLemmas.{Keep, keep_all, keep_then, Cover, cover_later, LiesIn, LiesAt, tree_behind}
 
-corner_column : column_of 0 ≡ 0
+pub corner_column : column_of 0 ≡ 0
 unfolding column_of
 corner_column = refl
 
-corner_row : row_of 0 ≡ 0
+pub corner_row : row_of 0 ≡ 0
 unfolding row_of
 corner_row = refl
 

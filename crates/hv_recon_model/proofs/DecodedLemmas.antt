@@ -282,7 +282,7 @@ outside_behind width height left top n d off = (
       off_picture width height left top off (omega (arith, inside.right, inside.wide))
       (omega (arith, inside.below, inside.high))
 
-side_double : (size : ℕ) → side (suc size) ≡ 2 * side size
+pub side_double : (size : ℕ) → side (suc size) ≡ 2 * side size
 side_double size = omega (arith, pow-suc 2 size)
 
 -- where a node lies in the picture

@@ -1,3 +1,4 @@
+pub mod BesideLemmas
 pub mod DecodedLemmas
 pub mod PictureLemmas
 pub mod SeenLemmas

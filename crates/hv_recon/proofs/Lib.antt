@@ -4,6 +4,11 @@ mod LeafLemmas
 mod LineLemmas
 mod PutRowLemmas
 mod PutUnitLemmas
+pub mod BlockLemmas
+pub mod ChoiceLemmas
+mod LineLemmas
+pub mod NextBlockLemmas
 pub mod NodeLemmas
+pub mod PictureLemmas
 mod SumLemmas
 mod UnitLemmas

@@ -18,6 +18,7 @@ use Rattle.hv_recon_model.proofs.DecodedLemmas.{Step, and_then}
 use Rattle.hv_recon_model.proofs.PictureLemmas.{corner_column, corner_row}
 use Rattle.hv_recon_model.specs.SeenSamples.{Spot, SamplesAround, IsSeen, luma_spot, chroma_spot, comes_before, sample_at_left, sample_above, sample_around, is_in_picture, look_around}
 use Rattle.hv_recon.specs.Leaves.{AreSeen, luma_around, cb_around, cr_around, leaf_of_plan}
+use Rattle.hv_recon.proofs.ChoiceLemmas.{same_where, other_where}
 use Rattle.hv_recon.specs.DecodedNodes.{node_of_plan, is_whole, IsNodeOfBlock, LeavesDecodeAsNodes, NodesOutsideDecodeNothing, SplitNodesDecodeByChildren, GreatestNodesAreBlocks}
 
 -- ---- a leaf
@@ -138,11 +139,6 @@ greatest_node_is_block plan place qp near samples node own d seen =
 
 -- ---- a node outside the picture
 
-same_where : {A : Type 0} (test : Bool) (a b c : A) → (test ≡ true → a ≡ b) →
-    cond test a c ≡ cond test b c
-same_where true a b c h = h refl
-same_where false a b c h = refl
-
 -- a square of 8x8 luma samples at a place of the component lies before it in the picture
 pub record FitsIn (place : Site) (s : Spot) : Type 0 where
   pub across :
@@ -197,11 +193,6 @@ same_before a from to none order = elim (cases_lt a from) [
     | inr past ↦ grind (arith, nat_tests)
   ]
 ]
-
-other_where : {A : Type 0} (test : Bool) (a b c : A) → (test ≡ false → b ≡ c) →
-    cond test a b ≡ cond test a c
-other_where true a b c h = refl
-other_where false a b c h = h refl
 
 and_same : (p q a b : Bool) → (p ≡ true → q ≡ true → a ≡ b) → p && q && a ≡ p && q && b
 and_same true true a b h = h refl refl

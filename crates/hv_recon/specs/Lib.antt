@@ -1,3 +1,4 @@
+pub mod DecodedBlocks
 pub mod DecodedNodes
 pub mod Leaves
 pub mod Rows

@@ -8,6 +8,7 @@ mod put;
 mod shapes;
 mod sizes;
 mod node_laws;
+mod picture_laws;
 mod transform_block;
 mod unit;
 mod view;
@@ -17,4 +18,5 @@ pub use node_laws::{
     greatest_nodes_are_blocks, leaves_decode_as_nodes, nodes_outside_decode_nothing,
     split_nodes_decode_by_children,
 };
+pub use picture_laws::{pictures_are_their_blocks, samples_are_those_of_blocks};
 pub use transform_block::rebuild_intra;

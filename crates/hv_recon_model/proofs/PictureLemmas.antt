@@ -81,7 +81,7 @@ module _ (width height : ℕ) where
   abbrev block_of : ℕ → ℕ → ℕ
   block_of x y = y / 64 * columns + x / 64
 
-  block_below : (x y : ℕ) → x < width → y < height → block_of x y < columns * rows
+  pub block_below : (x y : ℕ) → x < width → y < height → block_of x y < columns * rows
   block_below x y across down =
       let row_of_blocks : y / 64 + 1 ≤ rows = omega (arith, down) in
       let before : (y / 64 + 1) * columns ≤ rows * columns =

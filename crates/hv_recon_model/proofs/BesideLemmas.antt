@@ -27,11 +27,11 @@ same_beside : (left top n : ℕ) (d : Decoded) → KeepBeside left top n d d
 same_beside left top n d = record { luma = λ x y h. refl; cb = λ x y h. refl; cr = λ x y h. refl }
 
 -- a square in a square
-record LiesWithin (left top n x y m : ℕ) : Type 0 where
-  right : left ≤ x
-  below : top ≤ y
-  across : x + m ≤ left + n
-  down : y + m ≤ top + n
+pub record LiesWithin (left top n x y m : ℕ) : Type 0 where
+  pub right : left ≤ x
+  pub below : top ≤ y
+  pub across : x + m ≤ left + n
+  pub down : y + m ≤ top + n
 
 wider : (left top n x y m : ℕ) (d e : Decoded) → LiesWithin left top n x y m →
     KeepBeside x y m d e → KeepBeside left top n d e
@@ -108,7 +108,7 @@ unit_beside qp (Intra mode) left top log2 n t d luma_side chroma_side even_left 
 -- ---- a coding unit
 
 -- the sides of blocks of 8x8 or more, and of the four transform units
-sides : (k : ℕ) → (2 ^ (k + 3) ≡ 8 * 2 ^ k) × (2 ^ (k + 3 - 1) ≡ 4 * 2 ^ k) ×
+pub sides : (k : ℕ) → (2 ^ (k + 3) ≡ 8 * 2 ^ k) × (2 ^ (k + 3 - 1) ≡ 4 * 2 ^ k) ×
     (2 ^ (k + 3 - 1 - 1) ≡ 2 * 2 ^ k)
 sides k =
     let one : k + 3 - 1 - 1 ≡ suc k = omega arith in

@@ -1,6 +1,8 @@
 pub mod BesideLemmas
 pub mod DecodedLemmas
+pub mod LocalityLemmas
 pub mod PictureLemmas
 pub mod SeenLemmas
 pub mod SeenNodeLemmas
+pub mod WindowLemmas
 mod WorkedReconstructions

@@ -1,3 +1,4 @@
+pub mod LocalityLaws
 pub mod Reconstruction
 pub mod ReconstructionLaws
 pub mod SeenSamples

@@ -2,6 +2,8 @@
 //! functions here are empty, and each carries a law of the definition as its contract.
 #![tactic(auto)]
 
+mod locality_laws;
 mod reconstruction_laws;
 
+pub use locality_laws::blocks_are_local;
 pub use reconstruction_laws::every_sample_is_decoded;

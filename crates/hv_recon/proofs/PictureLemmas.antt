@@ -19,6 +19,7 @@ use Rattle.hv_unit_model.specs.Plans.{tree_of}
 use Rattle.hv_recon_model.specs.Reconstruction.{Decoded, nothing_decoded, decoded_tree, decoded_trees, sample_of, picture_of, unfiltered}
 use Rattle.hv_recon_model.proofs.BesideLemmas.{KeepBeside, KeptBeside, tree_beside}
 use Rattle.hv_recon_model.proofs.PictureLemmas.{block_below}
+use Rattle.hv_recon_model.proofs.WholeLocalityLemmas.{some_of_product}
 use Rattle.hv_recon.specs.Leaves.{AreSeen, luma_around, cb_around, cr_around, lists_of_plan}
 use Rattle.hv_recon.specs.DecodedBlocks.{neighbours_of, trees_from, BlocksDecode, sample_of_blocks, SamplesAreThoseOfBlocks, PicturesAreTheirBlocks}
 use Rattle.hv_recon.proofs.ChoiceLemmas.{where_is, where_never, none_either}
@@ -163,10 +164,6 @@ kept_by left top n d e r same kept = subst (λ o. KeptBeside left top n d o) sam
 abbrev BlocksFrom : List Block → ℕ → List Block → Type 0
 BlocksFrom blocks first rest = (i : ℕ) → slice_get rest i ≡ slice_get blocks (first + i)
 
-some_columns : (columns rows n : ℕ) → n < columns * rows → 0 < columns
-some_columns zero rows n h = absurd (omega (arith, h))
-some_columns (suc columns) rows n h = omega arith
-
 blocks_decode : (width height qp : ℕ) (blocks : List Block) → BlocksDecode width height qp blocks →
     (count first : ℕ) (rest : List Block) → length rest ≡ count →
     first + count ≡ length blocks → BlocksFrom blocks first rest → (d : Decoded) →
@@ -191,7 +188,7 @@ blocks_decode width height qp blocks all (suc count) first (block ∷ rest) long
     sym (from 0 ∙ ap (slice_get blocks) number) in
     let few : first ≤ length blocks = omega (arith, total) in
     let columns : 0 < blocks_over width =
-    some_columns (blocks_over width) (blocks_over height) first
+    some_of_product (blocks_over width) (blocks_over height) first
     (omega (arith, total, all.count)) in
     let one = all.decodes first block there block.samples d
     (seen_so width height blocks all.whole first few columns d done block.samples) in

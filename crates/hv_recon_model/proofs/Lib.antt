@@ -4,5 +4,6 @@ pub mod LocalityLemmas
 pub mod PictureLemmas
 pub mod SeenLemmas
 pub mod SeenNodeLemmas
+pub mod WholeLocalityLemmas
 pub mod WindowLemmas
 mod WorkedReconstructions

@@ -14,18 +14,18 @@ use Rattle.hv_recon_model.proofs.WindowLemmas.{SameIn, SameAround, BothSame, sam
 
 -- ---- beside blocks of these numbers nothing changes
 
-abbrev BesideBlocks : ℕ → ℕ → ℕ → ℕ → ℕ → ℕ → Type 0
+abbrev pub BesideBlocks : ℕ → ℕ → ℕ → ℕ → ℕ → ℕ → Type 0
 BesideBlocks width height first count x y =
     (k : ℕ) → first ≤ k → k < first + count →
     LiesBeside (ctb_side * ctb_column (site width height k))
     (ctb_side * ctb_row (site width height k)) 64 x y
 
-record KeepAt (At : ℕ → ℕ → Type 0) (d e : Decoded) : Type 0 where
-  luma : (x y : ℕ) → At x y → e.luma x y ≡ d.luma x y
-  cb : (x y : ℕ) → At (2 * x) (2 * y) → e.cb x y ≡ d.cb x y
-  cr : (x y : ℕ) → At (2 * x) (2 * y) → e.cr x y ≡ d.cr x y
+pub record KeepAt (At : ℕ → ℕ → Type 0) (d e : Decoded) : Type 0 where
+  pub luma : (x y : ℕ) → At x y → e.luma x y ≡ d.luma x y
+  pub cb : (x y : ℕ) → At (2 * x) (2 * y) → e.cb x y ≡ d.cb x y
+  pub cr : (x y : ℕ) → At (2 * x) (2 * y) → e.cr x y ≡ d.cr x y
 
-abbrev KeptAt : (ℕ → ℕ → Type 0) → Decoded → Option Decoded → Type 0
+abbrev pub KeptAt : (ℕ → ℕ → Type 0) → Decoded → Option Decoded → Type 0
 KeptAt At d None = Unit {0}
 KeptAt At d (Some e) = KeepAt At d e
 
@@ -52,7 +52,7 @@ blocks_then left top At Later f d None one more first second = tt
 blocks_then left top At Later f d (Some e) one more first second =
     block_then left top At Later d e (f e) one more first (second e)
 
-trees_beside : (width height qp count first : ℕ) (trees : List Tree) (d : Decoded) →
+pub trees_beside : (width height qp count first : ℕ) (trees : List Tree) (d : Decoded) →
     KeptAt (BesideBlocks width height first count) d
     (decoded_trees qp (sites_from count width height first) trees d)
 unfolding decoded_trees
@@ -71,7 +71,7 @@ trees_beside width height qp (suc count) first (tree ∷ trees) d =
     (tree_beside qp greatest_size left top tree d (omega arith) (omega arith))
     (trees_beside width height qp count (first + 1) trees)
 
-kept_by : (At : ℕ → ℕ → Type 0) (d e : Decoded) (r : Option Decoded) → r ≡ Some e →
+pub kept_by : (At : ℕ → ℕ → Type 0) (d e : Decoded) (r : Option Decoded) → r ≡ Some e →
     KeptAt At d r → KeepAt At d e
 kept_by At d e r same kept = subst (λ o. KeptAt At d o) same kept
 

@@ -1,7 +1,7 @@
 -- The four blocks around a coding tree block determine what is decoded in it.
-use Rattle.std.specs.Prelude.{◌≡◌, ℕ, ◌+◌, ◌-◌, ◌*◌, ◌/◌, ◌<◌, List, Some}
+use Rattle.std.specs.Prelude.{◌≡◌, ℕ, ◌+◌, ◌-◌, ◌*◌, ◌/◌, ◌<◌, List, slice_get, Some}
 use Rattle.hv_unit_model.specs.Trees.{Tree, greatest_size}
-use Rattle.hv_unit_model.specs.Sites.{Site, site, sites_from, blocks_over, ctb_side, ctb_column, ctb_row}
+use Rattle.hv_unit_model.specs.Sites.{Site, site, sites, sites_from, blocks_over, ctb_side, ctb_column, ctb_row}
 use Rattle.hv_recon_model.specs.Reconstruction.{Component, Decoded, nothing_decoded, decoded_tree, decoded_trees}
 
 -- In one colour component, whose blocks have this side: two pictures have the same samples in the
@@ -51,3 +51,15 @@ BlocksAreLocal =
     (decoded_tree qp greatest_size (ctb_side * ctb_column (site width height index))
     (ctb_side * ctb_row (site width height index)) tree e ≡ Some g) ×
     SameBlockThere (site width height index) f g
+
+-- The same of two whole pictures, whatever comes behind the block too: where they have the same
+-- tree at this number, and the same samples in the edges around, they have the same samples there.
+abbrev pub PicturesAreLocal : Type 0
+PicturesAreLocal =
+    (width height qp index : ℕ) (trees others : List Tree) (tree : Tree) (p q : Decoded) →
+    index < blocks_over width * blocks_over height →
+    slice_get trees index ≡ Some tree → slice_get others index ≡ Some tree →
+    decoded_trees qp (sites width height) trees nothing_decoded ≡ Some p →
+    decoded_trees qp (sites width height) others nothing_decoded ≡ Some q →
+    SameEdgesAround (site width height index) p q →
+    SameBlockThere (site width height index) p q

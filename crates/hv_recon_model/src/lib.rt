@@ -5,5 +5,5 @@
 mod locality_laws;
 mod reconstruction_laws;
 
-pub use locality_laws::blocks_are_local;
+pub use locality_laws::{blocks_are_local, pictures_are_local};
 pub use reconstruction_laws::every_sample_is_decoded;

@@ -1,6 +1,6 @@
 //! The four blocks around a coding tree block determine what is decoded in it.
 
-ghost use Rattle.hv_recon_model.specs.LocalityLaws.{BlocksAreLocal};
+ghost use Rattle.hv_recon_model.specs.LocalityLaws.{BlocksAreLocal, PicturesAreLocal};
 
 /// In pictures of every size and at every quantiser, whatever the coding tree blocks before one
 /// hold: where two pictures have the same samples in the edges of the four blocks around it, which
@@ -8,4 +8,11 @@ ghost use Rattle.hv_recon_model.specs.LocalityLaws.{BlocksAreLocal};
 /// samples of luma, Cb and Cr in both. It takes no memory.
 pub fn blocks_are_local()
     ensures { BlocksAreLocal }
+{}
+
+/// So it is with two whole pictures, whatever comes behind the block in each: where they have the
+/// same tree at a number in raster order (6.5.1), and the same samples in the edges around its
+/// block, they have the same samples there. It takes no memory.
+pub fn pictures_are_local()
+    ensures { PicturesAreLocal }
 {}

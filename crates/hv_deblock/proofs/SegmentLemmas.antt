@@ -15,7 +15,7 @@ use Rattle.hv_deblock.specs.Filled.{columns_of, rows_of, samples_of, IsFilled}
 use Rattle.hv_deblock.specs.Lines.{KeepsOuter, lines_after}
 use Rattle.hv_deblock.specs.Passes.{edge_line, edge_changes, segment_sample}
 use Rattle.hv_deblock_model.proofs.LineLemmas.{line_same}
-use Rattle.hv_deblock.proofs.LineLemmas.{line_of, first_of_cond, second_of_cond, and_false}
+use Rattle.hv_deblock.proofs.LineLemmas.{first_of_cond, second_of_cond, and_false}
 use Rattle.hv_deblock.proofs.FilledLemmas.{fill_below, fill_right, filled_same, kept_filled, no_rows}
 
 -- a row below those that are filled is as before

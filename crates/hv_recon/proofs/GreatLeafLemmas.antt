@@ -74,14 +74,20 @@ module _ (plan : CtbPlan) (place : Site) (near : Neighbours) (mode qp : ℕ) whe
       (record { across = omega (arith, inside.across); down = omega (arith, inside.down) }) refl refl
       put.first_put seen in
       let b = quarter_behind 16 put.first put.second (x + 32) y a.0 (lit< tt) refl
-      (record { across = omega (arith, inside.across, p.right);
-        down = omega (arith, inside.down, p.top) }) p.right p.top put.second_put a.2 in
+      (record {
+        across = omega (arith, inside.across, p.right);
+        down = omega (arith, inside.down, p.top);
+      }) p.right p.top put.second_put a.2 in
       let c = quarter_behind 32 put.second put.third x (y + 32) b.0 (lit< tt) refl
-      (record { across = omega (arith, inside.across, p.left);
-        down = omega (arith, inside.down, p.below) }) p.left p.below put.third_put b.2 in
+      (record {
+        across = omega (arith, inside.across, p.left);
+        down = omega (arith, inside.down, p.below);
+      }) p.left p.below put.third_put b.2 in
       let e = quarter_behind 48 put.third new (x + 32) (y + 32) c.0 (lit< tt) refl
-      (record { across = omega (arith, inside.across, p.last_right);
-        down = omega (arith, inside.down, p.last_below) }) p.last_right p.last_below
+      (record {
+        across = omega (arith, inside.across, p.last_right);
+        down = omega (arith, inside.down, p.last_below);
+      }) p.last_right p.last_below
       put.fourth_put c.2 in
       let s = square_at x y 6 in
       let t2 : List TransformUnit = unit_at plan 48 ∷ [] in

@@ -65,8 +65,12 @@ module _ (side x y log2 r : ℕ) (block old mid row : List ℕ) (across : x + 2 
   fits : from + length row ≤ length mid
   unfolding from
   fits =
-      omega (arith, long, row_fits side x y r (2 ^ log2) (length mid) across
-      (omega (arith, one, down)) whole)
+      omega (
+        arith,
+        long,
+        row_fits side x y r (2 ^ log2) (length mid) across
+            (omega (arith, one, down)) whole,
+      )
 
   count : length new ≡ side * side
   unfolding new

@@ -129,8 +129,8 @@ unit_behind plan place near size address mode qp old new d few node inside put s
       (λ i. all_decoded (luma.1 i) ((is_cb ∙ cb.1) i) ((is_cr ∙ cr.1) i)),
       record { luma = luma.2; cb = cb.2; cr = cr.2 },
     ) where
-  one_at_least : (n : ℕ) → n ≤ 2 → 1 ≤ 2 ^ n
-  one_at_least zero few = lit≤ tt
-  one_at_least (suc zero) few = lit≤ tt
-  one_at_least (suc (suc zero)) few = lit≤ tt
-  one_at_least (suc (suc (suc n))) few = absurd (omega (arith, few))
+      one_at_least : (n : ℕ) → n ≤ 2 → 1 ≤ 2 ^ n
+      one_at_least zero few = lit≤ tt
+      one_at_least (suc zero) few = lit≤ tt
+      one_at_least (suc (suc zero)) few = lit≤ tt
+      one_at_least (suc (suc (suc n))) few = absurd (omega (arith, few))

@@ -4,11 +4,11 @@
 
 mod around;
 mod leaf;
+mod node_laws;
+mod picture_laws;
 mod put;
 mod shapes;
 mod sizes;
-mod node_laws;
-mod picture_laws;
 mod transform_block;
 mod unit;
 mod view;

@@ -132,7 +132,9 @@ fn rebuild_block(view: &View<'_>, spot: Spot, levels: &[i16], samples: &mut [u8]
     let known = &line[..4 * side_of(spot.log2) + 1];
     let mut room = [0; 1024];
     let block = &mut room[..count];
-    rebuild_intra(known, levels, spot.log2, spot.qp, spot.mode, spot.luma, block);
+    rebuild_intra(
+        known, levels, spot.log2, spot.qp, spot.mode, spot.luma, block,
+    );
     put_block(view.side, spot.x, spot.y, spot.log2, block, samples);
 }
 
@@ -206,13 +208,7 @@ fn row_of(address: u8) -> usize
 
 /// Rebuilds a transform unit (7.3.8.10, 8.4.4.1): its three blocks, each from the samples of its own
 /// component.
-pub fn rebuild_unit(
-    plan: &CtbPlan,
-    place: Place,
-    near: &Neighbours,
-    unit: Unit,
-    out: &mut Samples,
-)
+pub fn rebuild_unit(plan: &CtbPlan, place: Place, near: &Neighbours, unit: Unit, out: &mut Samples)
     requires { 0 < place.width }
     ensures { IsUnitPut plan.now place near.now unit.size unit.address unit.mode unit.qp out.old
         out.new }
@@ -240,6 +236,16 @@ pub fn rebuild_unit(
     let levels = &plan.luma()[64 * address..64 * address + area_of(luma.log2)];
     rebuild_luma(&luma_view(place, near), luma, levels, out);
     let (from, end) = (16 * address, 16 * address + area_of(chroma.log2));
-    rebuild_cb(&chroma_view(place, cb_around(near)), chroma, &plan.cb()[from..end], out);
-    rebuild_cr(&chroma_view(place, cr_around(near)), chroma, &plan.cr()[from..end], out);
+    rebuild_cb(
+        &chroma_view(place, cb_around(near)),
+        chroma,
+        &plan.cb()[from..end],
+        out,
+    );
+    rebuild_cr(
+        &chroma_view(place, cr_around(near)),
+        chroma,
+        &plan.cr()[from..end],
+        out,
+    );
 }

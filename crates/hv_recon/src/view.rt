@@ -91,7 +91,14 @@ impl View<'_> {
 
     /// The neighbours of a transform block of 2^log2 columns and rows in this column and row, in
     /// the first 4 * 2^log2 + 1 places (8.4.4.2.2).
-    pub fn line(&self, own: &[u8], address: usize, x: usize, y: usize, log2: u8) -> [Option<u8>; 129]
+    pub fn line(
+        &self,
+        own: &[u8],
+        address: usize,
+        x: usize,
+        y: usize,
+        log2: u8,
+    ) -> [Option<u8>; 129]
         requires least { 2 ≤ log2 }
         requires most { log2 ≤ 5 }
         requires across { x + 2 ^ log2 ≤ self.now.side }

@@ -85,17 +85,17 @@ is_in_moved : (left top x y log2 p q : ℕ) →
     is_in (square_at x y log2) p q
 is_in_moved left top x y log2 p q = λ j.
     moved_1 j && moved_2 j && moved_3 j && moved_4 j where
-  moved_1 : nat_le (left + x) (left + p) ≡ nat_le x p
-  moved_1 = grind (arith, nat_tests)
+      moved_1 : nat_le (left + x) (left + p) ≡ nat_le x p
+      moved_1 = grind (arith, nat_tests)
 
-  moved_2 : nat_lt (left + p) (left + x + 2 ^ log2) ≡ nat_lt p (x + 2 ^ log2)
-  moved_2 = grind (arith, nat_tests)
+      moved_2 : nat_lt (left + p) (left + x + 2 ^ log2) ≡ nat_lt p (x + 2 ^ log2)
+      moved_2 = grind (arith, nat_tests)
 
-  moved_3 : nat_le (top + y) (top + q) ≡ nat_le y q
-  moved_3 = grind (arith, nat_tests)
+      moved_3 : nat_le (top + y) (top + q) ≡ nat_le y q
+      moved_3 = grind (arith, nat_tests)
 
-  moved_4 : nat_lt (top + q) (top + y + 2 ^ log2) ≡ nat_lt q (y + 2 ^ log2)
-  moved_4 = grind (arith, nat_tests)
+      moved_4 : nat_lt (top + q) (top + y + 2 ^ log2) ≡ nat_lt q (y + 2 ^ log2)
+      moved_4 = grind (arith, nat_tests)
 
 -- the sample of a block in its own column and row
 abbrev in_block : ℕ → ℕ → ℕ → List ℕ → ℕ → ℕ → Option ℕ
@@ -177,28 +177,28 @@ kept_inside : (side : ℕ) (block old new : List ℕ) (address next x y log2 p q
     sample_inside side old address p q ≡ sample_inside side new next p q
 kept_inside side block old new address next x y log2 p q between put off =
     elim (cases_lt p side) [
-    | inl across ↦ elim (cases_lt q side) [
-      | inl down ↦
-          let before : comes_before side next p q ≡ comes_before side address p q =
-          between.sample p q across down ∙ ap (λ t. t || comes_before side address p q) off in
-          let value : by_rows side new p q ≡ by_rows side old p q =
-          put.sample p q across down ∙
-          ap (λ t. cond t (in_block x y log2 block p q) (by_rows side old p q)) off in
-          sym (λ j. cond (nat_lt p side && nat_lt q side && before j) (value j) None)
-      | inr low ↦
-          let none : nat_lt q side ≡ false = grind (arith, nat_tests, low) in
-          beyond (nat_lt p side) (nat_lt q side) _ _ _ _ (inr none)
-    ]
-    | inr far ↦
-        let none : nat_lt p side ≡ false = grind (arith, nat_tests, far) in
-        beyond (nat_lt p side) (nat_lt q side) _ _ _ _ (inl none)
-  ] where
-  beyond : (a b c d : Bool) (v w : Option ℕ) → (a ≡ false) ⊎ (b ≡ false) →
-      cond (a && b && c) v None ≡ cond (a && b && d) w None
-  beyond true true c d v w (inl off) = absurd cc
-  beyond true true c d v w (inr off) = absurd cc
-  beyond true false c d v w off = refl
-  beyond false b c d v w off = refl
+      | inl across ↦ elim (cases_lt q side) [
+        | inl down ↦
+            let before : comes_before side next p q ≡ comes_before side address p q =
+            between.sample p q across down ∙ ap (λ t. t || comes_before side address p q) off in
+            let value : by_rows side new p q ≡ by_rows side old p q =
+            put.sample p q across down ∙
+            ap (λ t. cond t (in_block x y log2 block p q) (by_rows side old p q)) off in
+            sym (λ j. cond (nat_lt p side && nat_lt q side && before j) (value j) None)
+        | inr low ↦
+            let none : nat_lt q side ≡ false = grind (arith, nat_tests, low) in
+            beyond (nat_lt p side) (nat_lt q side) _ _ _ _ (inr none)
+      ]
+      | inr far ↦
+          let none : nat_lt p side ≡ false = grind (arith, nat_tests, far) in
+          beyond (nat_lt p side) (nat_lt q side) _ _ _ _ (inl none)
+    ] where
+      beyond : (a b c d : Bool) (v w : Option ℕ) → (a ≡ false) ⊎ (b ≡ false) →
+          cond (a && b && c) v None ≡ cond (a && b && d) w None
+      beyond true true c d v w (inl off) = absurd cc
+      beyond true true c d v w (inr off) = absurd cc
+      beyond true false c d v w off = refl
+      beyond false b c d v w off = refl
 
 -- from the coding tree block's first column and row on
 behind_inside : (s : Spot) (around : SamplesAround) (block old new : List ℕ)
@@ -213,24 +213,24 @@ behind_inside s around block old new address next x y log2 samples fits inside b
     across down =
     picture_inside s _ p q ∙ block_moved s.left s.top x y log2 block samples p q ∙
     by (is_in (square_at x y log2) p q) refl where
-  kept : samples (s.left + p) (s.top + q) ≡
-      cond (is_in_sides s p q) (sample_inside s.side old address p q) None
-  kept =
-      sym (picture_inside s samples p q) ∙
-      seen.sample (s.side + p) (s.side + q) (omega arith) (omega (arith, across)) (omega arith)
-      (omega (arith, down)) ∙
-      around_inside s around old address p q
+      kept : samples (s.left + p) (s.top + q) ≡
+          cond (is_in_sides s p q) (sample_inside s.side old address p q) None
+      kept =
+          sym (picture_inside s samples p q) ∙
+          seen.sample (s.side + p) (s.side + q) (omega arith) (omega (arith, across)) (omega arith)
+          (omega (arith, down)) ∙
+          around_inside s around old address p q
 
-  by : (test : Bool) → is_in (square_at x y log2) p q ≡ test →
-      cond test (in_block x y log2 block p q) (samples (s.left + p) (s.top + q)) ≡
-      look_around s around new next (s.side + p) (s.side + q)
-  by true here =
-      behind_in_block s around block old new address next x y log2 p q fits inside between put here
-  by false off =
-      kept ∙
-      ap (λ v. cond (is_in_sides s p q) v None)
-      (kept_inside s.side block old new address next x y log2 p q between put off) ∙
-      sym (around_inside s around new next p q)
+      by : (test : Bool) → is_in (square_at x y log2) p q ≡ test →
+          cond test (in_block x y log2 block p q) (samples (s.left + p) (s.top + q)) ≡
+          look_around s around new next (s.side + p) (s.side + q)
+      by true here =
+          behind_in_block s around block old new address next x y log2 p q fits inside between put here
+      by false off =
+          kept ∙
+          ap (λ v. cond (is_in_sides s p q) v None)
+          (kept_inside s.side block old new address next x y log2 p q between put off) ∙
+          sym (around_inside s around new next p q)
 
 -- at its left, and above it
 
@@ -256,9 +256,9 @@ around_outside s around old new address next x y before =
     (sample_at_left s.side around y) (sample_above s.side around x)
     (sample_inside s.side old address (x - s.side) (y - s.side))
     (sample_inside s.side new next (x - s.side) (y - s.side)) (tests before) where
-  tests : x < s.side ⊎ y < s.side → nat_lt x s.side ≡ true ⊎ nat_lt y s.side ≡ true
-  tests (inl h) = inl (lt-ltb x s.side h)
-  tests (inr h) = inr (lt-ltb y s.side h)
+      tests : x < s.side ⊎ y < s.side → nat_lt x s.side ≡ true ⊎ nat_lt y s.side ≡ true
+      tests (inl h) = inl (lt-ltb x s.side h)
+      tests (inr h) = inr (lt-ltb y s.side h)
 
 picture_outside : (s : Spot) (samples : Component) (block : List ℕ) (x y log2 p q : ℕ) →
     p < s.side ⊎ q < s.side →
@@ -267,25 +267,25 @@ picture_outside : (s : Spot) (samples : Component) (block : List ℕ) (x y log2 
 unfolding look_picture
 picture_outside s samples block x y log2 p q before =
     by (nat_le s.side (s.left + p)) refl (nat_le s.side (s.top + q)) refl where
-  off : s.side ≤ s.left + p → s.side ≤ s.top + q → (b : p < s.side ⊎ q < s.side) →
-      is_in (square_at (s.left + x) (s.top + y) log2) (s.left + p - s.side) (s.top + q - s.side) ≡
-      false
-  off h k (inl left) =
-      not_in_left s.left s.top x y log2 _ _ (inl (omega (arith, h, left)))
-  off h k (inr above) =
-      not_in_left s.left s.top x y log2 _ _ (inr (omega (arith, k, above)))
+      off : s.side ≤ s.left + p → s.side ≤ s.top + q → (b : p < s.side ⊎ q < s.side) →
+          is_in (square_at (s.left + x) (s.top + y) log2) (s.left + p - s.side) (s.top + q - s.side) ≡
+          false
+      off h k (inl left) =
+          not_in_left s.left s.top x y log2 _ _ (inl (omega (arith, h, left)))
+      off h k (inr above) =
+          not_in_left s.left s.top x y log2 _ _ (inr (omega (arith, k, above)))
 
-  by : (a : Bool) → nat_le s.side (s.left + p) ≡ a → (b : Bool) → nat_le s.side (s.top + q) ≡ b →
-      cond (a && b) (with_block samples (square_at (s.left + x) (s.top + y) log2) block
-      (s.left + p - s.side) (s.top + q - s.side)) None ≡
-      cond (a && b) (samples (s.left + p - s.side) (s.top + q - s.side)) None
-  by false e b f = refl
-  by true e false f = refl
-  by true e true f =
-      ap (λ t. cond t (Some (slice_index_or block ((s.top + q - s.side - (s.top + y)) * 2 ^ log2 +
-      (s.left + p - s.side - (s.left + x))) 0)) (samples (s.left + p - s.side)
-      (s.top + q - s.side)))
-      (off (leb-true _ _ e) (leb-true _ _ f) before)
+      by : (a : Bool) → nat_le s.side (s.left + p) ≡ a → (b : Bool) → nat_le s.side (s.top + q) ≡ b →
+          cond (a && b) (with_block samples (square_at (s.left + x) (s.top + y) log2) block
+          (s.left + p - s.side) (s.top + q - s.side)) None ≡
+          cond (a && b) (samples (s.left + p - s.side) (s.top + q - s.side)) None
+      by false e b f = refl
+      by true e false f = refl
+      by true e true f =
+          ap (λ t. cond t (Some (slice_index_or block ((s.top + q - s.side - (s.top + y)) * 2 ^ log2 +
+          (s.left + p - s.side - (s.left + x))) 0)) (samples (s.left + p - s.side)
+          (s.top + q - s.side)))
+          (off (leb-true _ _ e) (leb-true _ _ f) before)
 
 -- what is seen behind the block
 pub seen_behind : (s : Spot) (around : SamplesAround) (block old new : List ℕ)
@@ -296,32 +296,32 @@ pub seen_behind : (s : Spot) (around : SamplesAround) (block old new : List ℕ)
     (with_block samples (square_at (s.left + x) (s.top + y) log2) block)
 seen_behind s around block old new address next x y log2 samples fits inside between put seen =
     record { sample = sample } where
-  Same : ℕ → ℕ → Type 0
-  Same p q =
-      look_picture s (with_block samples (square_at (s.left + x) (s.top + y) log2) block) p q ≡
-      look_around s around new next p q
+      Same : ℕ → ℕ → Type 0
+      Same p q =
+          look_picture s (with_block samples (square_at (s.left + x) (s.top + y) log2) block) p q ≡
+          look_around s around new next p q
 
-  outside : (p q : ℕ) → s.side ≤ p + 1 → p < 3 * s.side → s.side ≤ q + 1 → q < 3 * s.side →
-      p < s.side ⊎ q < s.side → Same p q
-  outside p q right across below down before =
-      picture_outside s samples block x y log2 p q before ∙
-      seen.sample p q right across below down ∙
-      around_outside s around old new address next p q before
+      outside : (p q : ℕ) → s.side ≤ p + 1 → p < 3 * s.side → s.side ≤ q + 1 → q < 3 * s.side →
+          p < s.side ⊎ q < s.side → Same p q
+      outside p q right across below down before =
+          picture_outside s samples block x y log2 p q before ∙
+          seen.sample p q right across below down ∙
+          around_outside s around old new address next p q before
 
-  sample : (p q : ℕ) → s.side ≤ p + 1 → p < 3 * s.side → s.side ≤ q + 1 → q < 3 * s.side → Same p q
-  sample p q right across below down = elim (cases_lt p s.side) [
-    | inl left ↦ outside p q right across below down (inl left)
-    | inr from ↦ elim (cases_lt q s.side) [
-      | inl above ↦ outside p q right across below down (inr above)
-      | inr under ↦
-          let i : ℕ = p - s.side in
-          let k : ℕ = q - s.side in
-          subst (λ n. Same n q) (omega (arith, from)) (subst (λ n. Same (s.side + i) n)
-          (omega (arith, under))
-          (behind_inside s around block old new address next x y log2 samples fits inside between
-          put seen i k (omega (arith, from, across)) (omega (arith, under, down))))
-    ]
-  ]
+      sample : (p q : ℕ) → s.side ≤ p + 1 → p < 3 * s.side → s.side ≤ q + 1 → q < 3 * s.side → Same p q
+      sample p q right across below down = elim (cases_lt p s.side) [
+        | inl left ↦ outside p q right across below down (inl left)
+        | inr from ↦ elim (cases_lt q s.side) [
+          | inl above ↦ outside p q right across below down (inr above)
+          | inr under ↦
+              let i : ℕ = p - s.side in
+              let k : ℕ = q - s.side in
+              subst (λ n. Same n q) (omega (arith, from)) (subst (λ n. Same (s.side + i) n)
+              (omega (arith, under))
+              (behind_inside s around block old new address next x y log2 samples fits inside between
+              put seen i k (omega (arith, from, across)) (omega (arith, under, down))))
+        ]
+      ]
 
 -- ---- the samples that stay
 

@@ -164,20 +164,20 @@ in_luma : (c r size p q : ℕ) →
     is_in (square_at (8 * c) (8 * r) (size + 3)) p q
 in_luma c r size p q =
     λ j. at_first j && at_last j && at_top j && at_bottom j where
-  power : 2 ^ (size + 3) ≡ 8 * 2 ^ size
-  power = power_luma size
+      power : 2 ^ (size + 3) ≡ 8 * 2 ^ size
+      power = power_luma size
 
-  at_first : nat_le c (p / 8) ≡ nat_le (8 * c) p
-  at_first = grind (arith, nat_tests)
+      at_first : nat_le c (p / 8) ≡ nat_le (8 * c) p
+      at_first = grind (arith, nat_tests)
 
-  at_last : nat_lt (p / 8) (c + 2 ^ size) ≡ nat_lt p (8 * c + 2 ^ (size + 3))
-  at_last = grind (arith, nat_tests, power)
+      at_last : nat_lt (p / 8) (c + 2 ^ size) ≡ nat_lt p (8 * c + 2 ^ (size + 3))
+      at_last = grind (arith, nat_tests, power)
 
-  at_top : nat_le r (q / 8) ≡ nat_le (8 * r) q
-  at_top = grind (arith, nat_tests)
+      at_top : nat_le r (q / 8) ≡ nat_le (8 * r) q
+      at_top = grind (arith, nat_tests)
 
-  at_bottom : nat_lt (q / 8) (r + 2 ^ size) ≡ nat_lt q (8 * r + 2 ^ (size + 3))
-  at_bottom = grind (arith, nat_tests, power)
+      at_bottom : nat_lt (q / 8) (r + 2 ^ size) ≡ nat_lt q (8 * r + 2 ^ (size + 3))
+      at_bottom = grind (arith, nat_tests, power)
 
 in_chroma : (c r size p q : ℕ) →
     nat_le c (p / 4) && nat_lt (p / 4) (c + 2 ^ size) && nat_le r (q / 4) &&
@@ -185,20 +185,20 @@ in_chroma : (c r size p q : ℕ) →
     is_in (square_at (4 * c) (4 * r) (size + 2)) p q
 in_chroma c r size p q =
     λ j. at_first j && at_last j && at_top j && at_bottom j where
-  power : 2 ^ (size + 2) ≡ 4 * 2 ^ size
-  power = power_chroma size
+      power : 2 ^ (size + 2) ≡ 4 * 2 ^ size
+      power = power_chroma size
 
-  at_first : nat_le c (p / 4) ≡ nat_le (4 * c) p
-  at_first = grind (arith, nat_tests)
+      at_first : nat_le c (p / 4) ≡ nat_le (4 * c) p
+      at_first = grind (arith, nat_tests)
 
-  at_last : nat_lt (p / 4) (c + 2 ^ size) ≡ nat_lt p (4 * c + 2 ^ (size + 2))
-  at_last = grind (arith, nat_tests, power)
+      at_last : nat_lt (p / 4) (c + 2 ^ size) ≡ nat_lt p (4 * c + 2 ^ (size + 2))
+      at_last = grind (arith, nat_tests, power)
 
-  at_top : nat_le r (q / 4) ≡ nat_le (4 * r) q
-  at_top = grind (arith, nat_tests)
+      at_top : nat_le r (q / 4) ≡ nat_le (4 * r) q
+      at_top = grind (arith, nat_tests)
 
-  at_bottom : nat_lt (q / 4) (r + 2 ^ size) ≡ nat_lt q (4 * r + 2 ^ (size + 2))
-  at_bottom = grind (arith, nat_tests, power)
+      at_bottom : nat_lt (q / 4) (r + 2 ^ size) ≡ nat_lt q (4 * r + 2 ^ (size + 2))
+      at_bottom = grind (arith, nat_tests, power)
 
 pub luma_between : (size address : ℕ) → size ≤ 2 → IsNode size address →
     ComesBetween 64 (8 * column_of address) (8 * row_of address) (size + 3) address

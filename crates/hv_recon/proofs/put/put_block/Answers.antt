@@ -23,9 +23,11 @@ put_row-requires c =
     omega (arith, long, fits, value)
 
 pub loop-r-init : goal.loop-r-init
-loop-r-init c =
-    (c.requires.whole, none_put c.args.side c.args.x c.args.y c.args.log2 c.args.block.now
-    c.args.samples.now)
+loop-r-init c = (
+  c.requires.whole,
+  none_put c.args.side c.args.x c.args.y c.args.log2 c.args.block.now
+      c.args.samples.now,
+)
 
 pub loop-r-preserved : goal.loop-r-preserved
 loop-r-preserved c =
@@ -46,9 +48,9 @@ loop-r-preserved c =
     ap (λ m. get_or c.args.block.now (c.loop-r.r * m + j) 0) value)
     c.loop-r.invariant.1 in (
       ap length c.put_row.ensures ∙
-      long_row c.loop-r.samples row ((c.args.y + c.loop-r.r) * c.args.side + c.args.x)
+          long_row c.loop-r.samples row ((c.args.y + c.loop-r.r) * c.args.side + c.args.x)
           (omega (arith, long, fits, value)) ∙
-      c.loop-r.invariant.0,
+          c.loop-r.invariant.0,
       subst (λ new. AreRowsPut c.args.side c.args.x c.args.y c.args.log2 (c.loop-r.r + 1)
           c.args.block.now c.args.samples.now new) (sym c.put_row.ensures) put,
     )

@@ -31,8 +31,13 @@ slice_bounds-rebuild_cb-end c =
     let ends =
     unit_ends c.args.unit.size c.args.unit.address c.args.unit.few c.args.unit.inside
     c.args.unit.even in
-    omega (arith, ends.chroma_levels, c.area_of-2.ensures.square, c.from-address.ensures,
-    c.cb.ensures.count)
+    omega (
+      arith,
+      ends.chroma_levels,
+      c.area_of-2.ensures.square,
+      c.from-address.ensures,
+      c.cb.ensures.count,
+    )
 
 pub rebuild_cb-requires-clause-across : goal.rebuild_cb-requires-clause-across
 rebuild_cb-requires-clause-across c =

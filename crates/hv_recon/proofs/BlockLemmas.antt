@@ -44,8 +44,8 @@ pub record Grid : Type 0 where
 abbrev pub spot_of : Grid → ℕ → Spot
 spot_of g n = record {
   side = g.side;
-  column = n % g.across;
-  row = n / g.across;
+  left = g.side * (n % g.across);
+  top = g.side * (n / g.across);
   width = g.width;
   height = g.height;
 }

@@ -6,7 +6,6 @@ mod PutRowLemmas
 mod PutUnitLemmas
 pub mod BlockLemmas
 pub mod ChoiceLemmas
-mod LineLemmas
 pub mod NextBlockLemmas
 pub mod NodeLemmas
 pub mod PictureLemmas

@@ -142,10 +142,10 @@ greatest_node_is_block plan place qp near samples node own d seen =
 -- a square of 8x8 luma samples at a place of the component lies before it in the picture
 pub record FitsIn (place : Site) (s : Spot) : Type 0 where
   pub across :
-      (u : ℕ) → s.side * s.column + u < s.width →
+      (u : ℕ) → s.left + u < s.width →
       ctb_side * ctb_column place + 8 * (u / (s.side / 8)) < place.width
   pub down :
-      (v : ℕ) → s.side * s.row + v < s.height →
+      (v : ℕ) → s.top + v < s.height →
       ctb_side * ctb_row place + 8 * (v / (s.side / 8)) < place.height
   pub columns : (u : ℕ) → u < s.side → u / (s.side / 8) < 8
 
@@ -205,8 +205,8 @@ behind x n late = grind (arith, nat_tests, late)
 -- so nothing is seen of its squares
 module _ (place : Site) (s : Spot) (fits : FitsIn place s) (size address : ℕ)
     (node : IsNode size address) (outside : is_outside place address ≡ true) where
-  before_same : (u v : ℕ) → u < s.side → v < s.side → s.side * s.column + u < s.width →
-      s.side * s.row + v < s.height →
+  before_same : (u v : ℕ) → u < s.side → v < s.side → s.left + u < s.width →
+      s.top + v < s.height →
       comes_before s.side address u v ≡ comes_before s.side (address + squares size) u v
   before_same u v ub vb across down =
       let c : ℕ = u / (s.side / 8) in
@@ -225,8 +225,8 @@ module _ (place : Site) (s : Spot) (fits : FitsIn place s) (size address : ℕ)
       (sample_around s.side around own n x y) None (λ there.
       other_where (nat_lt x s.side) (sample_at_left s.side around y) _ _ (λ no_x.
       other_where (nat_lt y s.side) (sample_above s.side around x) _ _ (λ no_y.
-      let p = and_parts _ (nat_lt (s.side * s.row + y - s.side) s.height) there in
-      let q = and_parts _ (nat_lt (s.side * s.column + x - s.side) s.width) p.0 in
+      let p = and_parts _ (nat_lt (s.top + y - s.side) s.height) there in
+      let q = and_parts _ (nat_lt (s.left + x - s.side) s.width) p.0 in
       ap (λ t. cond t (slice_get own ((y - s.side) * s.side + (x - s.side))) None)
       (and_same (nat_lt (x - s.side) s.side) (nat_lt (y - s.side) s.side) _ _ (λ xb yb.
       before_same (x - s.side) (y - s.side) (ltb-true _ _ xb) (ltb-true _ _ yb)

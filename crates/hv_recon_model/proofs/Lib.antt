@@ -1,4 +1,6 @@
 pub mod BesideLemmas
+pub mod BlankBlockLemmas
+pub mod BlankPictureLemmas
 pub mod DecodedLemmas
 pub mod LocalityLemmas
 pub mod PictureLemmas

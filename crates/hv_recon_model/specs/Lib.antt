@@ -1,3 +1,4 @@
+pub mod BlankLaws
 pub mod LocalityLaws
 pub mod Reconstruction
 pub mod ReconstructionLaws

@@ -1,9 +1,9 @@
 -- A picture in which nothing is chosen is grey: what is decoded of it is grey behind each of its
 -- blocks, and in the end all of it is decoded.
-use Rattle.std.proofs.Common.{◌≡◌, ℕ, zero, suc, ◌+◌, ◌*◌, ◌/◌, ◌<◌, Bool, true, false, List, [], ◌∷◌, refl, sym, ap, subst, ◌∙◌, arith}
+use Rattle.std.proofs.Common.{◌≡◌, ℕ, zero, suc, ◌+◌, ◌*◌, ◌/◌, ◌<◌, true, false, List, [], ◌∷◌, sym, ap, subst, ◌∙◌, arith}
 use Rattle.std.specs.Prelude.{not, nat_eq, ◌&&◌, ◌||◌, is_some, Option, Some, None, option_and_then, option_map}
 use Rattle.std.specs.List.{list_all, concat}
-use Rattle.std.proofs.lemmas.Bool.{or_parts, and_parts}
+use Rattle.std.proofs.lemmas.Bool.{or_parts, and_parts, not-true}
 use Rattle.std.proofs.lemmas.Bool.Decides.{nat_tests}
 use Rattle.hv_lemmas.proofs.ListLemmas.{tabulate-same}
 use Rattle.hv_types.specs.Samples.{filled_plane, plane_by_rows}
@@ -77,10 +77,6 @@ units_grey qp s (t ∷ u ∷ units) d none grey = quarters_grey qp s 0 (t ∷ u 
 
 -- ---- nodes
 
-without : (b : Bool) → not b ≡ true → b ≡ false
-without true e = sym e
-without false e = refl
-
 leaf_grey : (qp mode : ℕ) (s : Square) (units : List TransformUnit) (d : Decoded) →
     nat_eq mode 1 && not (any_level units) ≡ true → AllGrey d →
     GreyBehind (decoded_units qp (Intra mode) s units d)
@@ -88,7 +84,7 @@ leaf_grey qp mode s units d blank grey =
     let parts = and_parts (nat_eq mode 1) (not (any_level units)) blank in
     let is_dc : mode ≡ 1 = grind (arith, nat_tests, parts.0) in
     subst (λ m. GreyBehind (decoded_units qp (Intra m) s units d)) (sym is_dc)
-    (units_grey qp s units d (without (any_level units) parts.1) grey)
+    (units_grey qp s units d (not-true (any_level units) parts.1) grey)
 
 tree_grey : (qp size x y : ℕ) (tree : Tree) (d : Decoded) → is_blank_tree tree ≡ true →
     AllGrey d → GreyBehind (decoded_tree qp size x y tree d)

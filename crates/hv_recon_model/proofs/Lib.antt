@@ -8,4 +8,5 @@ pub mod SeenLemmas
 pub mod SeenNodeLemmas
 pub mod WholeLocalityLemmas
 pub mod WindowLemmas
+mod WorkedBlankPictures
 mod WorkedReconstructions

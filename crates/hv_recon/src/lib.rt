@@ -9,6 +9,8 @@ mod picture_laws;
 mod put;
 mod shapes;
 mod sizes;
+#[cfg(test)]
+mod tests;
 mod transform_block;
 mod unit;
 mod view;

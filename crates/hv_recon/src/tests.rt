@@ -1,0 +1,229 @@
+//! Leaves of a few blocks, worked by hand.
+ghost use Rattle.std.specs.Prelude.{◌≡◌, ◌+◌, ◌%◌, ◌^◌, ◌<◌, ◌≤◌};
+ghost use Rattle.hv_unit_model.specs.Trees.{side};
+ghost use Rattle.hv_unit_model.specs.Sites.{squares, x0, y0};
+
+use super::*;
+use hv_block::{Block, Edges, Neighbours};
+use hv_plan::{Place, Pred, Unit};
+use std::test::Fail;
+
+const NONE: Neighbours = Neighbours {
+    left: None,
+    above_left: None,
+    above: None,
+    above_right: None,
+};
+
+/// A block of a picture of 128x128 luma samples.
+fn place(index: u32) -> Place
+    ensures { result ≡ record { width = 128; height = 128; index = index } }
+{
+    Place {
+        width: 128,
+        height: 128,
+        index,
+    }
+}
+
+/// Edges of a block whose samples are these in each component.
+fn edges(luma: u8, cb: u8, cr: u8) -> Edges {
+    let unit = Unit {
+        depth: 0,
+        pred: Pred::Intra { mode: 1 },
+    };
+    Edges {
+        right_units: [unit; 8],
+        bottom_units: [unit; 8],
+        right_luma: [luma; 64],
+        bottom_luma: [luma; 64],
+        right_cb: [cb; 32],
+        bottom_cb: [cb; 32],
+        right_cr: [cr; 32],
+        bottom_cr: [cr; 32],
+    }
+}
+
+/// Makes a node one unit of this mode, and rebuilds it at the quantiser 40. Tells whether it did.
+fn rebuild(block: &mut Block, place: Place, node: (u8, u8), mode: u8, near: &Neighbours) -> bool
+    requires size { node.1 ≤ 3 }
+    requires address { node.0 < 64 }
+    requires fits { node.0 + 4 ^ node.1 ≤ 64 }
+    requires node { node.0 % squares node.1 ≡ 0 }
+    requires right { x0 place node.0 + side node.1 ≤ place.width }
+    requires bottom { y0 place node.0 + side node.1 ≤ place.height }
+    requires mode { mode ≤ 34 }
+{
+    let (address, size) = node;
+    block.plan.set_leaf(address, size, Pred::Intra { mode });
+    if let Pred::Intra { mode } = block.plan.units()[usize::from(address)].pred {
+        if mode <= 34 {
+            rebuild_leaf(
+                &block.plan,
+                address,
+                size,
+                place,
+                40,
+                near,
+                &mut block.samples,
+            );
+            return true;
+        }
+    }
+    false
+}
+
+/// Nothing is around the first block; from the left of the second, row by row, each of the four
+/// transform units of 32x32 goes on with the one before.
+#[test]
+#[tactic(auto, unfolding(hv_unit_model::specs::Sites::column_of, hv_unit_model::specs::Sites::row_of))]
+fn units_of_64(rt: HostRuntime) -> Result<(), Fail> {
+    let mut block = Block::new(rt.alloc())?;
+    assert!(rt; rebuild(&mut block, place(0), (0, 3), 1, &NONE));
+    assert_eq!(rt; block.samples.luma(), &[128; 4096][..]);
+    assert_eq!(rt; block.samples.cb(), &[128; 1024][..]);
+
+    let mut near = NONE;
+    near.left = Some(edges(50, 60, 70));
+    assert!(rt; rebuild(&mut block, place(1), (0, 3), 10, &near));
+    assert_eq!(rt; block.samples.luma(), &[50; 4096][..]);
+    assert_eq!(rt; block.samples.cb(), &[60; 1024][..]);
+    assert_eq!(rt; block.samples.cr(), &[70; 1024][..]);
+    Ok(())
+}
+
+/// A unit of 8x8 beside the first, from the lower left, where nothing is decoded yet.
+#[test]
+#[tactic(auto, unfolding(hv_unit_model::specs::Sites::column_of, hv_unit_model::specs::Sites::row_of))]
+fn lower_left_comes_later(rt: HostRuntime) -> Result<(), Fail> {
+    let mut block = Block::new(rt.alloc())?;
+    block.samples.luma_mut().fill(9);
+    for y in 0..8 {
+        block.samples.luma_mut()[64 * y..64 * y + 8].fill(40);
+    }
+    assert!(rt; rebuild(&mut block, place(0), (1, 0), 2, &NONE));
+    let luma = block.samples.luma();
+    assert_eq!(rt; &luma[8..16], &[40; 8][..]);
+    assert_eq!(rt; &luma[64 * 7 + 8..64 * 7 + 16], &[40; 8][..]);
+    assert_eq!(rt; (luma[16], luma[64 * 8], luma[64 * 8 + 8]), (9, 9, 9));
+    Ok(())
+}
+
+/// From the upper right: the second unit of 8x8 is decoded before the third, the fifth isn't before
+/// the fourth.
+#[test]
+#[tactic(auto, unfolding(hv_unit_model::specs::Sites::column_of, hv_unit_model::specs::Sites::row_of))]
+fn upper_right_comes_before(rt: HostRuntime) -> Result<(), Fail> {
+    let mut block = Block::new(rt.alloc())?;
+    block.samples.luma_mut().fill(9);
+    block.samples.luma_mut()[64 * 7..64 * 7 + 8].fill(40);
+    block.samples.luma_mut()[64 * 7 + 8..64 * 7 + 16].fill(80);
+    block.samples.cb_mut().fill(9);
+    block.samples.cb_mut()[32 * 3..32 * 3 + 4].fill(40);
+    block.samples.cb_mut()[32 * 3 + 4..32 * 3 + 8].fill(80);
+    assert!(rt; rebuild(&mut block, place(0), (2, 0), 34, &NONE));
+    let luma = block.samples.luma();
+    assert_eq!(rt;
+        &luma[64 * 8..64 * 8 + 8],
+        &[40, 40, 40, 40, 40, 40, 50, 70][..]
+    );
+    assert_eq!(rt;
+        &luma[64 * 15..64 * 15 + 8],
+        &[70, 80, 80, 80, 80, 80, 80, 80][..]
+    );
+    let cb = block.samples.cb();
+    assert_eq!(rt; &cb[32 * 4..32 * 4 + 4], &[40, 40, 40, 80][..]);
+    assert_eq!(rt; &cb[32 * 5..32 * 5 + 4], &[40, 40, 80, 80][..]);
+
+    assert!(rt; rebuild(&mut block, place(0), (3, 0), 34, &NONE));
+    let cb = block.samples.cb();
+    assert_eq!(rt; &cb[32 * 4 + 4..32 * 4 + 8], &[80; 4][..]);
+    assert_eq!(rt; &cb[32 * 7 + 4..32 * 7 + 8], &[80; 4][..]);
+    Ok(())
+}
+
+/// Below the picture's first blocks at its left edge, from the left: what lies there has the first
+/// sample above. Luma of 8x8 is smoothed in its first row.
+#[test]
+#[tactic(auto, unfolding(hv_unit_model::specs::Sites::column_of, hv_unit_model::specs::Sites::row_of))]
+fn left_edge(rt: HostRuntime) -> Result<(), Fail> {
+    let mut block = Block::new(rt.alloc())?;
+    let mut above = edges(50, 60, 70);
+    above.bottom_luma[0] = 40;
+    above.bottom_cb[0] = 20;
+    let mut near = NONE;
+    near.above = Some(above);
+    assert!(rt; rebuild(&mut block, place(2), (0, 0), 10, &near));
+    let luma = block.samples.luma();
+    assert_eq!(rt; &luma[..9], &[40, 45, 45, 45, 45, 45, 45, 45, 0][..]);
+    assert_eq!(rt; &luma[64..73], &[40, 40, 40, 40, 40, 40, 40, 40, 0][..]);
+    assert_eq!(rt;
+        &block.samples.cb()[32 * 3..32 * 3 + 5],
+        &[20, 20, 20, 20, 0][..]
+    );
+    assert_eq!(rt; &block.samples.cr()[..5], &[70, 70, 70, 70, 0][..]);
+    Ok(())
+}
+
+/// A unit of 32x32 from above: a column that differs is copied down to its end.
+#[test]
+#[tactic(auto, unfolding(hv_unit_model::specs::Sites::column_of, hv_unit_model::specs::Sites::row_of))]
+fn column_of_32(rt: HostRuntime) -> Result<(), Fail> {
+    let mut block = Block::new(rt.alloc())?;
+    let mut above = edges(50, 60, 70);
+    above.bottom_luma[40] = 7;
+    above.bottom_cr[31] = 8;
+    let mut near = NONE;
+    near.above = Some(above);
+    assert!(rt; rebuild(&mut block, place(2), (16, 2), 26, &near));
+    let (luma, cr) = (block.samples.luma(), block.samples.cr());
+    assert_eq!(rt; &luma[38..43], &[50, 50, 7, 50, 50][..]);
+    assert_eq!(rt; &luma[64 * 31 + 38..64 * 31 + 43], &[50, 50, 7, 50, 50][..]);
+    assert_eq!(rt; (luma[31], luma[64 * 32 + 40]), (0, 0));
+    assert_eq!(rt; &cr[32 * 15 + 14..32 * 15 + 18], &[0, 0, 70, 70][..]);
+    assert_eq!(rt; (cr[32 * 15 + 31], cr[32 * 16 + 31]), (8, 0));
+    Ok(())
+}
+
+/// A plane through the samples at the left and above, in Cb of 8x8 and luma of 16x16.
+#[test]
+#[tactic(auto, unfolding(hv_unit_model::specs::Sites::column_of, hv_unit_model::specs::Sites::row_of))]
+fn planar_of_16(rt: HostRuntime) -> Result<(), Fail> {
+    let mut block = Block::new(rt.alloc())?;
+    let mut near = NONE;
+    near.left = Some(edges(50, 60, 70));
+    near.above = Some(edges(90, 92, 70));
+    assert!(rt; rebuild(&mut block, place(3), (0, 1), 0, &near));
+    let cb = block.samples.cb();
+    assert_eq!(rt; &cb[..9], &[76, 78, 80, 82, 84, 86, 88, 90, 0][..]);
+    assert_eq!(rt;
+        &cb[32 * 7..32 * 7 + 9],
+        &[62, 64, 66, 68, 70, 72, 74, 76, 0][..]
+    );
+    assert_eq!(rt; block.samples.luma()[64 * 15 + 15], 70);
+    assert_eq!(rt; block.samples.cr()[32 * 7 + 7], 70);
+    Ok(())
+}
+
+/// The first level 1 at the quantiser 40 is 8 in each sample of luma of 8x8; chroma has the
+/// quantiser 36, by which it is 10 in each sample of 4x4, and would have 16 by 40.
+#[test]
+#[tactic(auto, unfolding(hv_unit_model::specs::Sites::column_of, hv_unit_model::specs::Sites::row_of))]
+fn levels_at_40(rt: HostRuntime) -> Result<(), Fail> {
+    let mut block = Block::new(rt.alloc())?;
+    block.plan.luma_mut()[0] = 1;
+    block.plan.cb_mut()[0] = 1;
+    block.plan.cr_mut()[0] = -1;
+    assert!(rt; rebuild(&mut block, place(0), (0, 0), 1, &NONE));
+    let luma = block.samples.luma();
+    assert_eq!(rt; (luma[0], luma[64 * 7 + 7], luma[8]), (136, 136, 0));
+    assert_eq!(rt;
+        &block.samples.cb()[32 * 3..32 * 3 + 5],
+        &[138, 138, 138, 138, 0][..]
+    );
+    assert_eq!(rt;
+        &block.samples.cr()[32 * 3..32 * 3 + 5],
+        &[118, 118, 118, 118, 0][..]
+    );
+    Ok(())
+}

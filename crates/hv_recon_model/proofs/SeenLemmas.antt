@@ -1,13 +1,13 @@
 -- What is seen from a coding tree block before a transform block of it is decoded, and behind it:
 -- its neighbours are those of the picture (6.4.1, 8.4.4.2.2), and what is seen behind it are its
 -- own samples beside those before.
-use Rattle.std.proofs.Common.{◌≡◌, ℕ, zero, suc, ◌+◌, ◌-◌, ◌*◌, ◌/◌, ◌^◌, ◌<◌, ◌≤◌, Bool, true, false, cond, List, ◌++◌, refl, sym, ap, ap₂, subst, ◌∙◌, arith, ◌⊎◌, inl, inr}
-use Rattle.std.specs.Prelude.{nat_eq, nat_le, nat_lt, not, ◌&&◌, ◌||◌, slice_get, slice_index_or, Option, Some, None}
+use Rattle.std.proofs.Common.{◌≡◌, ℕ, zero, suc, ◌+◌, ◌-◌, ◌*◌, ◌^◌, ◌<◌, ◌≤◌, Bool, true, false, cond, List, ◌++◌, refl, sym, ap, ap₂, subst, ◌∙◌, arith, ◌⊎◌, inl, inr}
+use Rattle.std.specs.Prelude.{nat_eq, nat_le, nat_lt, not, ◌&&◌, ◌||◌, slice_index_or, Option, Some, None}
 use Rattle.std.proofs.lemmas.Bool.{cases_lt, and_parts, leb-true, ltb-true, lt-ltb}
 use Rattle.std.proofs.lemmas.Bool.Decides.{nat_tests}
 use Rattle.hv_lemmas.proofs.ListLemmas.{tabulate-same}
-use Rattle.hv_recon_model.specs.Reconstruction.{Component, Square, square_at, left_of, above_of, neighbours, is_in, with_block}
-use Rattle.hv_recon_model.specs.SeenSamples.{Spot, SamplesAround, by_rows, comes_before, sample_at_left, sample_above, sample_inside, sample_around, is_behind_edges, is_in_picture, look_around, look_picture, IsSeen, seen_line, IsPut}
+use Rattle.hv_recon_model.specs.Reconstruction.{Component, square_at, left_of, above_of, neighbours, is_in, with_block}
+use Rattle.hv_recon_model.specs.SeenSamples.{Spot, SamplesAround, by_rows, comes_before, sample_at_left, sample_above, sample_inside, is_behind_edges, is_in_picture, look_around, look_picture, IsSeen, seen_line, IsPut}
 
 -- ---- the neighbours
 

@@ -1,7 +1,7 @@
 -- Transform blocks of a coding tree block by their nodes: which samples come before them (6.5.2),
 -- and what is decoded behind them.
-use Rattle.std.proofs.Common.{◌≡◌, ℕ, zero, suc, ◌+◌, ◌-◌, ◌*◌, ◌/◌, ◌%◌, ◌^◌, ◌<◌, ◌≤◌, Bool, true, false, List, refl, sym, ap, ap₂, subst, ◌∙◌, arith}
-use Rattle.std.specs.Prelude.{nat_eq, nat_le, nat_lt, not, ◌&&◌, ◌||◌, Option, Some, ℤ}
+use Rattle.std.proofs.Common.{◌≡◌, ℕ, zero, suc, ◌+◌, ◌*◌, ◌/◌, ◌%◌, ◌^◌, ◌<◌, ◌≤◌, Bool, true, false, List, refl, sym, ap, ◌∙◌, arith}
+use Rattle.std.specs.Prelude.{nat_eq, nat_le, nat_lt, not, ◌&&◌, ◌||◌, Some, ℤ}
 use Rattle.std.proofs.lemmas.Bool.{and_parts, eq-eqb, leb-true}
 use Rattle.std.proofs.lemmas.Bool.Decides.{nat_tests}
 use Rattle.std.proofs.Math.Nat.{pow-suc}
@@ -10,8 +10,8 @@ use Rattle.hv_lemmas.proofs.ComputedLemmas.{all_below, holds_below}
 use Rattle.hv_unit_model.specs.Trees.{Intra}
 use Rattle.hv_unit_model.specs.Sites.{address_of, column_of, row_of, squares}
 use Rattle.hv_unit_model.proofs.NodeLemmas.{IsNode}
-use Rattle.hv_recon_model.specs.Reconstruction.{Component, square_at, is_in, neighbours, with_block, decoded_block, sum_of}
-use Rattle.hv_recon_model.specs.SeenSamples.{Spot, SamplesAround, comes_before, IsSeen, IsPut, seen_line, seen_block}
+use Rattle.hv_recon_model.specs.Reconstruction.{Component, square_at, is_in, with_block, decoded_block}
+use Rattle.hv_recon_model.specs.SeenSamples.{Spot, SamplesAround, IsSeen, IsPut, seen_line, seen_block}
 use Rattle.hv_recon_model.proofs.SeenLemmas.{FitsIn, FitsInPicture, ComesBetween, neighbours_seen, seen_behind}
 
 -- ---- what is decoded behind a transform block

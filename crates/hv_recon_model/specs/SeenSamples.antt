@@ -1,6 +1,6 @@
 -- The samples that are seen from a coding tree block while it is decoded: its own, so far as they
 -- are decoded, and those of the blocks around it, by their last columns and rows.
-use Rattle.std.specs.Prelude.{◌≡◌, ℕ, ◌+◌, ◌-◌, ◌*◌, ◌/◌, ◌^◌, ◌<◌, ◌≤◌, cond, nat_eq, nat_lt, nat_le, ◌&&◌, Bool, List, ◌++◌, slice_get, Option, Some, None, ℤ}
+use Rattle.std.specs.Prelude.{◌≡◌, ℕ, ◌+◌, ◌-◌, ◌*◌, ◌/◌, ◌^◌, ◌<◌, ◌≤◌, cond, nat_lt, nat_le, ◌&&◌, Bool, List, ◌++◌, slice_get, Option, Some, None, ℤ}
 use Rattle.hv_lemmas.specs.Lists.{tabulate}
 use Rattle.hv_sample_model.specs.IntraPrediction.{predicted, substituted}
 use Rattle.hv_sample_model.specs.InverseTransform.{residual}

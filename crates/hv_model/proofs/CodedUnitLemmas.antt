@@ -1,14 +1,27 @@
--- What the encoder codes in blocks is blank.
-use Rattle.std.proofs.Common.{◌≡◌, ℕ, zero, suc, ◌+◌, ◌*◌, Bool, true, false, cond, List, [], ◌∷◌, refl}
-use Rattle.std.specs.Prelude.{◌-◌, ◌^◌, replicate, pos}
+-- What the encoder codes in blocks is blank, and decoded to a grey picture.
+use Rattle.std.proofs.Common.{◌≡◌, ℕ, zero, suc, ◌+◌, ◌*◌, ◌≤◌, Bool, true, false, cond, List, [], ◌∷◌, map, refl, ap, ◌∙◌, arith}
+use Rattle.std.specs.Prelude.{◌-◌, ◌^◌, replicate, pos, Some, option_map, All}
 use Rattle.std.specs.List.{list_all}
+use Rattle.hv_types.specs.declared.bins.SliceKind.TheVariants.{I}
+use Rattle.hv_types.specs.declared.settings.Settings.{Settings}
+use Rattle.hv_types.specs.Configuration.{IsValid, padded_width, padded_height}
+use Rattle.hv_stream_model.specs.Headers.{size_of}
 use Rattle.hv_residual_model.specs.ResidualBins.{any_significant}
-use Rattle.hv_unit_model.specs.Trees.{Tree, Leaf, Split, Outside, Intra, no_levels, no_unit, no_units, log2TrafoSize, transform_units, any_level, greatest_size}
-use Rattle.hv_unit_model.specs.Sites.{Site, squares, is_outside, crosses}
+use Rattle.hv_unit_model.specs.Trees.{Tree, Leaf, Split, Outside, Intra, no_levels, no_unit, no_units, log2TrafoSize, transform_units, any_level, greatest_size, CodingTreeUnit}
+use Rattle.hv_unit_model.specs.Sites.{Site, sites, squares, is_outside, crosses}
 use Rattle.hv_unit_model.specs.MostProbableModes.{dc}
+use Rattle.hv_unit_model.specs.Validity.{AreValid}
+use Rattle.hv_filter_model.specs.OffLaws.{IsOff}
+use Rattle.hv_recon_model.specs.ReconstructionLaws.{AreTrees}
+use Rattle.hv_recon_model.specs.BlankLaws.{is_blank_tree, BlankPicturesAreGrey}
 use Rattle.hv_slice_model.specs.BlankUnits.{blank_node}
-use Rattle.hv_model.specs.Reconstruction.{is_blank_tree, is_blank}
-use Rattle.hv_model.specs.Encoding.{coded_units}
+use Rattle.hv_slice_model.specs.Slices.{picture_sites}
+use Rattle.hv_slice_model.proofs.BlankUnitLemmas.{blank_units_valid}
+use Rattle.hv_deblock_model.specs.TreeSquares.{squares_of_trees}
+use Rattle.hv_deblock_model.specs.FlatPictures.{FlatPicturesAreShown}
+use Rattle.hv_model.specs.Reconstruction.{no_vectors, filtered_picture}
+use Rattle.hv_model.specs.Encoding.{coded_units, recon_picture}
+use Rattle.hv_model.proofs.KeepingLemmas.{AreDecodedTo}
 
 zeros_insignificant : (n : ℕ) → any_significant (replicate n (pos 0)) ≡ false
 zeros_insignificant zero = refl
@@ -55,7 +68,41 @@ node_blank site (suc size) address =
     (node_blank site size address) (node_blank site size (address + n))
     (node_blank site size (address + 2 * n)) (node_blank site size (address + 3 * n))
 
-pub coded_units_blank : (sites : List Site) → list_all is_blank (coded_units sites) ≡ true
-coded_units_blank [] = refl
-coded_units_blank (site ∷ sites) =
-    rw (node_blank site greatest_size 0, coded_units_blank sites) refl
+trees_blank : (sites : List Site) →
+    list_all is_blank_tree (map (λ unit. unit.tree) (coded_units sites)) ≡ true
+trees_blank [] = refl
+trees_blank (site ∷ sites) = rw (node_blank site greatest_size 0, trees_blank sites) refl
+
+-- ---- decoded
+
+trees_valid : (sites : List Site) (units : List CodingTreeUnit) → AreValid I 0 sites units →
+    AreTrees I 0 sites (map (λ unit. unit.tree) units)
+trees_valid [] [] h = tt
+trees_valid [] (unit ∷ units) h = absurd h
+trees_valid (site ∷ sites) [] h = absurd h
+trees_valid (site ∷ sites) (unit ∷ units) h = (h.1, trees_valid sites units h.3)
+
+choices_off : (sites : List Site) → All IsOff (map (λ unit. unit.sao) (coded_units sites))
+choices_off [] k d h = absurd (omega (arith, h))
+choices_off (site ∷ rest) zero d h = record { luma = refl; cb = refl; cr = refl }
+choices_off (site ∷ rest) (suc k) d h = choices_off rest k d (omega (arith, h))
+
+-- with every header, of whatever slice type
+pub coded_units_grey : BlankPicturesAreGrey → FlatPicturesAreShown →
+    (cfg : Settings) → IsValid cfg →
+    AreDecodedTo (size_of cfg) (coded_units (picture_sites cfg)) (recon_picture cfg)
+coded_units_grey grey flat cfg valid header references =
+    let w : ℕ = padded_width cfg in
+    let h : ℕ = padded_height cfg in
+    let units : List CodingTreeUnit = coded_units (picture_sites cfg) in
+    let trees : List Tree = map (λ unit. unit.tree) units in
+    let wide : 8 ≤ cfg.width = valid.width_least in
+    let high : 8 ≤ cfg.height = valid.height_least in
+    ap (option_map (filtered_picture w header units))
+    (grey w h header.qp 0 trees
+    (trees_valid (picture_sites cfg) units (blank_units_valid I 0 (picture_sites cfg)))
+    (trees_blank (picture_sites cfg))) ∙
+    ap (λ picture. Some picture)
+    (flat header.qp (squares_of_trees w no_vectors trees) (map (λ unit. unit.sao) units) w h
+    128 128 128 (omega arith) (omega arith) (omega arith) (omega arith) (omega arith) (omega arith)
+    (omega arith) (choices_off (picture_sites cfg)))

@@ -1,17 +1,18 @@
--- What is shown of a group whose pictures are blank: all of them, by rising count (C.5.2.2).
+-- What is shown of a group whose pictures are decoded alike: all of them, by rising count
+-- (C.5.2.2).
 use Rattle.std.proofs.Common.{◌≡◌, ℕ, ◌+◌, Bool, true, false, List, [], ◌∷◌, ◌++◌, length, map, refl, sym, ap, ap₂, ◌∙◌, arith}
 use Rattle.std.specs.Prelude.{◌&&◌, nat_eq, cond, filter, flat_map, Option, Some, None, option_map}
-use Rattle.std.specs.List.{list_all}
 use Rattle.std.proofs.lemmas.List.{map-append}
 use Rattle.hv_types.specs.declared.settings.Settings.{Settings}
+use Rattle.hv_types.specs.declared.picture.Picture.{Picture}
 use Rattle.hv_group_model.specs.Structure.{Coded, coding, rising}
 use Rattle.hv_group_model.proofs.NumberListLemmas.{length-rising}
 use Rattle.hv_stream_model.specs.Headers.{Size, most_count}
 use Rattle.hv_unit_model.specs.Trees.{CodingTreeUnit}
-use Rattle.hv_model.specs.Reconstruction.{is_blank, grey, DecodedPicture, filtered_picture}
+use Rattle.hv_model.specs.Reconstruction.{DecodedPicture}
 use Rattle.hv_model.specs.Decoding.{has_count, decoded_from, are_different, counts_of, decoded_sequence, by_count, cropped, shown_sequence}
 use Rattle.hv_model.proofs.OrderLemmas.{numbers_of, in_order, IsGood}
-use Rattle.hv_model.proofs.KeepingLemmas.{shown_at, coded_at, count_in, group_decoded}
+use Rattle.hv_model.proofs.KeepingLemmas.{AreDecodedTo, shown_at, coded_at, count_in, group_decoded}
 use Rattle.hv_stream_model.proofs.StreamLemmas.{same_bytes-true}
 
 -- lists of one value are the same where they have the same length
@@ -22,60 +23,59 @@ alike value [] (y ∷ b) e = absurd (omega arith)
 alike value (x ∷ a) [] e = absurd (omega arith)
 alike value (x ∷ a) (y ∷ b) e = ap (λ rest. value ∷ rest) (alike value a b (omega arith))
 
-module _ (size : Size) (units : List CodingTreeUnit) (blank : list_all is_blank units ≡ true) where
+module _
+    (size : Size) (units : List CodingTreeUnit) (p : Picture)
+    (same : AreDecodedTo size units p) where
   shown : ℕ → DecodedPicture
-  shown n = shown_at size units blank n
+  shown n = shown_at size units p same n
 
   those_of_count : (n : ℕ) (counts : List ℕ) →
-      filter (has_count n) (map (shown_at size units blank) counts) ≡
-      map (shown_at size units blank) (filter (nat_eq n) counts)
+      filter (has_count n) (map (shown_at size units p same) counts) ≡
+      map (shown_at size units p same) (filter (nat_eq n) counts)
   those_of_count n [] = refl
   those_of_count n (k ∷ counts) = go (nat_eq n k) (those_of_count n counts)
     where
       go : (t : Bool) →
-          filter (has_count n) (map (shown_at size units blank) counts) ≡
-          map (shown_at size units blank) (filter (nat_eq n) counts) →
+          filter (has_count n) (map (shown_at size units p same) counts) ≡
+          map (shown_at size units p same) (filter (nat_eq n) counts) →
           cond t
-          (shown_at size units blank k ∷
-          filter (has_count n) (map (shown_at size units blank) counts))
-          (filter (has_count n) (map (shown_at size units blank) counts)) ≡
-          map (shown_at size units blank)
+          (shown_at size units p same k ∷
+          filter (has_count n) (map (shown_at size units p same) counts))
+          (filter (has_count n) (map (shown_at size units p same) counts)) ≡
+          map (shown_at size units p same)
           (cond t (k ∷ filter (nat_eq n) counts) (filter (nat_eq n) counts))
-      go true e = ap (λ rest. shown_at size units blank k ∷ rest) e
+      go true e = ap (λ rest. shown_at size units p same k ∷ rest) e
       go false e = e
 
   by_counts : (numbers counts : List ℕ) →
-      flat_map (λ n. filter (has_count n) (map (shown_at size units blank) counts)) numbers ≡
-      map (shown_at size units blank) (flat_map (λ n. filter (nat_eq n) counts) numbers)
+      flat_map (λ n. filter (has_count n) (map (shown_at size units p same) counts)) numbers ≡
+      map (shown_at size units p same) (flat_map (λ n. filter (nat_eq n) counts) numbers)
   by_counts [] counts = refl
   by_counts (n ∷ numbers) counts =
       ap₂ (λ first others. first ++ others) (those_of_count n counts) (by_counts numbers counts) ∙
-      sym (map-append (shown_at size units blank) (filter (nat_eq n) counts)
+      sym (map-append (shown_at size units p same) (filter (nat_eq n) counts)
       (flat_map (λ m. filter (nat_eq m) counts) numbers))
 
   numbers_shown : (order : List Coded) →
-      map (λ c. shown_at size units blank c.picture) order ≡
-      map (shown_at size units blank) (numbers_of order)
+      map (λ c. shown_at size units p same c.picture) order ≡
+      map (shown_at size units p same) (numbers_of order)
   numbers_shown [] = refl
   numbers_shown (c ∷ order) =
-      ap (λ rest. shown_at size units blank c.picture ∷ rest) (numbers_shown order)
+      ap (λ rest. shown_at size units p same c.picture ∷ rest) (numbers_shown order)
 
   all_alike : (counts : List ℕ) →
-      map (λ d. cropped size d.picture) (map (shown_at size units blank) counts) ≡
-      map (λ n. cropped size (filtered_picture units
-      (grey size.pic_width_in_luma_samples size.pic_height_in_luma_samples))) counts
+      map (λ d. cropped size d.picture) (map (shown_at size units p same) counts) ≡
+      map (λ n. cropped size p) counts
   all_alike [] = refl
   all_alike (n ∷ counts) =
-      ap (λ rest. cropped size (filtered_picture units
-      (grey size.pic_width_in_luma_samples size.pic_height_in_luma_samples)) ∷ rest)
-      (all_alike counts)
+      ap (λ rest. cropped size p ∷ rest) (all_alike counts)
 
   module _ (cfg : Settings) (count : ℕ) (good : IsGood count (coding count cfg.levels)) where
     counts_are : (order : List Coded) →
-        counts_of (map (coded_at size units blank cfg count good) order) ≡ numbers_of order
+        counts_of (map (coded_at size units p same cfg count good) order) ≡ numbers_of order
     counts_are [] = refl
     counts_are (c ∷ order) =
-        ap₂ (λ n rest. n ∷ rest) (count_in size units blank cfg count good c.picture)
+        ap₂ (λ n rest. n ∷ rest) (count_in size units p same cfg count good c.picture)
         (counts_are order)
 
     sequence_decoded : (d : Bool) (found : Option (List DecodedPicture))
@@ -88,35 +88,28 @@ module _ (size : Size) (units : List CodingTreeUnit) (blank : list_all is_blank 
         shown_sequence
         (record {
           size = size;
-          pictures = map (coded_at size units blank cfg count good) (coding count cfg.levels);
+          pictures = map (coded_at size units p same cfg count good) (coding count cfg.levels);
         }) ≡
-        Some
-        (map
-        (λ picture. cropped size (filtered_picture units
-        (grey size.pic_width_in_luma_samples size.pic_height_in_luma_samples)))
-        pictures)
+        Some (map (λ picture. cropped size p) pictures)
     group_shown pictures e =
         let order : List Coded = coding count cfg.levels in
         let decoded : decoded_sequence
-        (record { size = size; pictures = map (coded_at size units blank cfg count good) order }) ≡
-        Some (map (λ c. shown_at size units blank c.picture) order) =
+        (record { size = size; pictures = map (coded_at size units p same cfg count good) order }) ≡
+        Some (map (λ c. shown_at size units p same c.picture) order) =
         sequence_decoded
-        (are_different (counts_of (map (coded_at size units blank cfg count good) order)))
-        (decoded_from size [] (map (coded_at size units blank cfg count good) order))
-        (map (λ c. shown_at size units blank c.picture) order)
+        (are_different (counts_of (map (coded_at size units p same cfg count good) order)))
+        (decoded_from size [] (map (coded_at size units p same cfg count good) order))
+        (map (λ c. shown_at size units p same c.picture) order)
         (ap are_different (counts_are order) ∙ good.different)
-        (group_decoded size units blank cfg count good) in
-        let sorted : by_count (map (λ c. shown_at size units blank c.picture) order) ≡
-        map (shown_at size units blank) (rising count 0) =
+        (group_decoded size units p same cfg count good) in
+        let sorted : by_count (map (λ c. shown_at size units p same c.picture) order) ≡
+        map (shown_at size units p same) (rising count 0) =
         ap by_count (numbers_shown order) ∙
         by_counts (rising (most_count + 1) 0) (numbers_of order) ∙
-        ap (map (shown_at size units blank))
+        ap (map (shown_at size units p same))
         (same_bytes-true (in_order (numbers_of order)) (rising count 0) good.shown) in
         ap (option_map (λ ps. map (λ d. cropped size d.picture) (by_count ps))) decoded ∙
         ap (λ ps. Some (map (λ d. cropped size d.picture) ps)) sorted ∙
         ap (λ ps. Some ps)
         (all_alike (rising count 0) ∙
-        alike
-        (cropped size (filtered_picture units
-        (grey size.pic_width_in_luma_samples size.pic_height_in_luma_samples)))
-        (rising count 0) pictures (length-rising count 0 ∙ sym e))
+        alike (cropped size p) (rising count 0) pictures (length-rising count 0 ∙ sym e))

@@ -1,5 +1,5 @@
--- The pictures of a group are decoded: what each set names is kept (8.3.2), where every picture is
--- blank.
+-- The pictures of a group are decoded: what each set names is kept (8.3.2), where all pictures have
+-- the same units, which are decoded to the same picture with every header.
 use Rattle.std.proofs.Common.{◌≡◌, ℕ, zero, suc, ◌+◌, ◌-◌, ◌<◌, ◌≤◌, Bool, true, false, List, [], ◌∷◌, ◌++◌, length, map, take, drop, refl, sym, ap, ap₂, ◌∙◌, subst, arith, inl, inr, append_assoc, eq-eqb, eqb-true}
 use Rattle.std.specs.Prelude.{◌⊎◌, ◌&&◌, ◌||◌, nat_eq, nat_lt, not, cond, filter, Option, Some, option_and_then, option_map}
 use Rattle.std.specs.List.{list_all, list_any}
@@ -8,12 +8,13 @@ use Rattle.std.proofs.lemmas.Bool.Decides.{nat_tests}
 use Rattle.std.proofs.lemmas.List.Folds.{list_any-append}
 use Rattle.std.proofs.Math.Seq.{take-append_seam, drop-append_seam}
 use Rattle.hv_types.specs.declared.settings.Settings.{Settings}
+use Rattle.hv_types.specs.declared.picture.Picture.{Picture}
 use Rattle.hv_group_model.specs.Structure.{Coded, coded, coding, blocks, anchors, is_among, is_referred, is_kept, place_in, falling, rising}
 use Rattle.hv_stream_model.specs.Headers.{Size, SliceHeader}
 use Rattle.hv_unit_model.specs.Trees.{CodingTreeUnit}
 use Rattle.hv_slice_model.specs.Slices.{count_of, set_counts, list_0, header_in}
 use Rattle.hv_model.specs.Parsing.{CodedPicture}
-use Rattle.hv_model.specs.Reconstruction.{is_blank, grey, DecodedPicture, filtered_picture, reconstructed}
+use Rattle.hv_model.specs.Reconstruction.{DecodedPicture, reconstructed}
 use Rattle.hv_model.specs.Decoding.{has_count, found_then, named, decoded_picture, decoded_from, are_different}
 use Rattle.hv_model.proofs.MembershipLemmas.{either, or_left, Among, AllAmong, among_first, among_behind, among_left, among_right, among_passes, among_stays, among_falling, among_rising}
 use Rattle.hv_model.proofs.OrderLemmas.{numbers_of, IsGood}
@@ -147,15 +148,19 @@ module _ (cfg : Settings) (count : ℕ) (good : IsGood count (coding count cfg.l
 
 -- ---- decoding
 
-module _ (size : Size) (units : List CodingTreeUnit) (blank : list_all is_blank units ≡ true) where
+-- with every header and list 0, these units are decoded to this picture
+abbrev pub AreDecodedTo : Size → List CodingTreeUnit → Picture → Type 0
+AreDecodedTo size units picture =
+    (header : SliceHeader) (references : List DecodedPicture) →
+    reconstructed size.pic_width_in_luma_samples size.pic_height_in_luma_samples header references
+    units ≡ Some picture
+
+module _
+    (size : Size) (units : List CodingTreeUnit) (p : Picture)
+    (same : AreDecodedTo size units p) where
   -- the decoded picture of a count
   abbrev pub shown_at : ℕ → DecodedPicture
-  shown_at count = record {
-    PicOrderCntVal = count;
-    picture =
-        filtered_picture units
-        (grey size.pic_width_in_luma_samples size.pic_height_in_luma_samples);
-  }
+  shown_at count = record { PicOrderCntVal = count; picture = p }
 
   first_found : (n : ℕ) (kept : List ℕ) (others : List ℕ) → Among n kept →
       found_then (filter (has_count n) (map shown_at kept)) (Some (map shown_at others)) ≡
@@ -205,7 +210,7 @@ module _ (size : Size) (units : List CodingTreeUnit) (blank : list_all is_blank 
           size.pic_width_in_luma_samples size.pic_height_in_luma_samples header references units)
           found) ≡
           Some (shown_at (count_of header))
-      decoded_with found references e = rw (e, blank) refl
+      decoded_with found references e = rw (e, same header references) refl
 
   -- one picture, and then the others
   decoded_then : (header : SliceHeader) (kept : List ℕ) (rest : List CodedPicture)

@@ -10,8 +10,8 @@ mod GroupShownLemmas
 mod ListZeroLemmas
 mod WrittenUnitLemmas
 pub mod RoundTripLemmas
-mod WorkedBlanks
-mod WorkedStreams
-mod WorkedRefusals
 mod WorkedSequences
 mod WorkedGroups
+mod WorkedStreams
+mod WorkedRefusals
+mod WorkedPictures

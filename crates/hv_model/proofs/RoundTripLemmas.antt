@@ -13,6 +13,8 @@ use Rattle.hv_stream_model.specs.HeaderLaws.{IsAllowed, OtherSlicesAreRead, Othe
 use Rattle.hv_stream_model.specs.UnitLaws.{stream_of}
 use Rattle.hv_group_model.specs.Structure.{Coded, coding, blocks, anchors, qp_at}
 use Rattle.hv_unit_model.specs.Trees.{CodingTreeUnit}
+use Rattle.hv_recon_model.specs.BlankLaws.{BlankPicturesAreGrey}
+use Rattle.hv_deblock_model.specs.FlatPictures.{FlatPicturesAreShown}
 use Rattle.hv_model.specs.PayloadLaws.{IsHeader, of_idr, of_other}
 use Rattle.hv_model.specs.Parsing.{CodedPicture, Sequence, begins_with_idr, in_front, cut_at_idrs, sequences_of, picture_of_unit, picture_then, pictures_of_units, parameters, with_parameters, sequences_after_sets, parsed_units}
 use Rattle.hv_model.specs.Decoding.{shown_sequence, shown_then, shown_of, decode_of}
@@ -24,7 +26,8 @@ use Rattle.hv_stream_model.proofs.HeaderLemmas.{reads_vps, reads_sps, reads_pps,
 use Rattle.hv_stream_model.proofs.UnitLemmas.{streams_read, stream_of_units}
 use Rattle.hv_unit_model.proofs.UnitLemmas.{sites_there}
 use Rattle.hv_slice_model.proofs.BlankUnitLemmas.{blank_units_valid}
-use Rattle.hv_model.proofs.CodedUnitLemmas.{coded_units_blank}
+use Rattle.hv_model.proofs.KeepingLemmas.{AreDecodedTo}
+use Rattle.hv_model.proofs.CodedUnitLemmas.{coded_units_grey}
 use Rattle.hv_model.proofs.PayloadLemmas.{parameters-back}
 use Rattle.hv_model.proofs.SliceLemmas.{slices_back}
 use Rattle.hv_model.proofs.GroupLemmas.{AreGroups, groups_are}
@@ -134,9 +137,10 @@ module _ (cfg : Settings) (valid : IsValid cfg) where
 
   -- ---- what is shown
 
-  sequence_is_shown : (group : List Picture) → 1 ≤ length group → length group ≤ cfg.group →
+  sequence_is_shown : AreDecodedTo (size_of cfg) (coded_units (picture_sites cfg))
+      (recon_picture cfg) → (group : List Picture) → 1 ≤ length group → length group ≤ cfg.group →
       shown_sequence (sequence_of cfg group) ≡ Some (encode_group cfg group).shown
-  sequence_is_shown group some few =
+  sequence_is_shown are_grey group some few =
       let even_width : cfg.width % 2 ≡ 0 = valid.even_width in
       let even_height : cfg.height % 2 ≡ 0 = valid.even_height in
       let right : padded_width cfg - 2 * ((padded_width cfg - cfg.width) / 2) ≡ cfg.width =
@@ -144,23 +148,25 @@ module _ (cfg : Settings) (valid : IsValid cfg) where
       let bottom : padded_height cfg - 2 * ((padded_height cfg - cfg.height) / 2) ≡ cfg.height =
       omega arith in
       let units : List CodingTreeUnit = coded_units (picture_sites cfg) in
-      group_shown (size_of cfg) units (coded_units_blank (picture_sites cfg)) cfg (length group)
+      group_shown (size_of cfg) units (recon_picture cfg) are_grey cfg (length group)
       (good_order (length group) some few) group refl ∙
       ap₂ (λ w h. Some (map (λ (picture : Picture). crop (recon_picture cfg) w h) group)) right bottom
 
-  sequences_are_shown : (groups : List (List Picture)) → AreGroups cfg.group groups →
+  sequences_are_shown : AreDecodedTo (size_of cfg) (coded_units (picture_sites cfg))
+      (recon_picture cfg) → (groups : List (List Picture)) → AreGroups cfg.group groups →
       shown_of (map (sequence_of cfg) groups) ≡
       Some (flat_map (λ group. (encode_group cfg group).shown) groups)
-  sequences_are_shown [] h = refl
-  sequences_are_shown (group ∷ groups) h =
-      ap₂ (λ p ps. shown_then p ps) (sequence_is_shown group h.0 h.1)
-      (sequences_are_shown groups h.2)
+  sequences_are_shown are_grey [] h = refl
+  sequences_are_shown are_grey (group ∷ groups) h =
+      ap₂ (λ p ps. shown_then p ps) (sequence_is_shown are_grey group h.0 h.1)
+      (sequences_are_shown are_grey groups h.2)
 
 -- ---- by what headers of pictures but the first are
 
 module _
     (reads_other : OtherSlicesAreRead) (codable_other : OtherSlicesAreCodable)
-    (allowed : SlicesOfGroupsAreAllowed) where
+    (allowed : SlicesOfGroupsAreAllowed) (grey : BlankPicturesAreGrey)
+    (flat : FlatPicturesAreShown) where
   header_allowed : (cfg : Settings) → IsValid cfg → (count k : ℕ) → count ≤ 64 → k < count →
       IsHeader cfg.levels (header_in cfg count k)
   header_allowed cfg valid count zero few below = of_idr (qp_at cfg.qp 0) (omega arith)
@@ -256,7 +262,7 @@ module _
       (streams_read (stream_of (units cfg pictures)) (units cfg pictures)
       (stream_of_units (units cfg pictures) (all_units cfg pictures))) ∙
       ap (option_and_then shown_of) (units_parsed cfg valid pictures) ∙
-      sequences_are_shown cfg valid (groups_of cfg pictures)
+      sequences_are_shown cfg valid (coded_units_grey grey flat cfg valid) (groups_of cfg pictures)
       (groups_are cfg pictures valid.group_least)
 
 -- ---- the test of the settings built

@@ -7,6 +7,10 @@ use Rattle.hv_types.specs.declared.bins.SliceKind.TheVariants.{P}
 use Rattle.hv_types.specs.declared.settings.Settings.{Settings}
 use Rattle.hv_types.specs.declared.settings.Emit.TheVariants.{Stream}
 use Rattle.hv_types.specs.Video.{crop}
+use Rattle.hv_lemmas.specs.Lists.{tabulate}
+use Rattle.hv_sample_model.specs.Blocks.{sum_of, total_of}
+use Rattle.hv_sample_model.specs.IntraPrediction.{predicted}
+use Rattle.hv_sample_model.specs.InverseTransform.{residual}
 use Rattle.hv_stream_model.specs.Bits.{first_bytes}
 use Rattle.hv_entropy_model.specs.Contexts.{lps_width, next_variable, first_variables}
 use Rattle.hv_entropy_model.specs.CodeWord.{shift_of}
@@ -23,7 +27,8 @@ use Rattle.hv_unit_model.specs.Bins.{sao_bins, luma_mode_bins, transform_unit_bi
 use Rattle.hv_slice_model.specs.BlankUnits.{blank_node}
 use Rattle.hv_slice_model.specs.Slices.{idr_header}
 use Rattle.hv_model.specs.Parsing.{Sequence, CodedPicture, parsed_of}
-use Rattle.hv_model.specs.Reconstruction.{grey}
+use Rattle.hv_recon_model.specs.Reconstruction.{decoded_block, decoded_tree, decoded_trees, unfiltered}
+use Rattle.hv_recon_model.specs.BlankLaws.{grey}
 use Rattle.hv_model.specs.Encoding.{coded_units, encode_of}
 use Rattle.hv_model.specs.Decoding.{decode_of}
 
@@ -83,7 +88,7 @@ unfolding first_bytes lps_width next_variable first_variables shift_of log2_of s
 five_parsed = refl
 
 five_shown : decode_of five_pictures ≡ Some (replicate 5 (crop (grey 8 8) 8 8))
-unfolding first_bytes lps_width next_variable first_variables shift_of log2_of sites sao coding_quadtree coding_unit intra_unit luma_mode candModeList mode_of_remaining truncated_unary transform_tree quarters transform_unit block_levels no_units no_levels look_picture column_of row_of address_of crosses is_outside
+unfolding first_bytes lps_width next_variable first_variables shift_of log2_of sites sao coding_quadtree coding_unit intra_unit luma_mode candModeList mode_of_remaining truncated_unary transform_tree quarters transform_unit block_levels no_units no_levels look_picture column_of row_of address_of crosses is_outside decoded_block decoded_tree decoded_trees unfiltered predicted residual sum_of total_of tabulate
 five_shown = refl
 
 -- ---- written
@@ -130,5 +135,5 @@ unfolding first_bytes lps_width next_variable first_variables shift_of log2_of s
 two_groups_written = refl
 
 two_groups_shown : decode_of two_groups ≡ Some (replicate 5 (crop (grey 8 8) 8 8))
-unfolding first_bytes lps_width next_variable first_variables shift_of log2_of sites sao coding_quadtree coding_unit intra_unit luma_mode candModeList mode_of_remaining truncated_unary transform_tree quarters transform_unit block_levels no_units no_levels look_picture column_of row_of address_of crosses is_outside
+unfolding first_bytes lps_width next_variable first_variables shift_of log2_of sites sao coding_quadtree coding_unit intra_unit luma_mode candModeList mode_of_remaining truncated_unary transform_tree quarters transform_unit block_levels no_units no_levels look_picture column_of row_of address_of crosses is_outside decoded_block decoded_tree decoded_trees unfiltered predicted residual sum_of total_of tabulate
 two_groups_shown = refl

@@ -19,7 +19,8 @@ use Rattle.hv_unit_model.specs.MostProbableModes.{candModeList, mode_of_remainin
 use Rattle.hv_unit_model.specs.BlockSyntax.{sao, luma_mode, block_levels, transform_unit, quarters, transform_tree, intra_unit, coding_unit, coding_quadtree}
 use Rattle.hv_stream_model.specs.Units.{NalUnit, IsUnit, IsByteStream, end, more, strip, last_of, units_of}
 use Rattle.hv_types.specs.Video.{crop}
-use Rattle.hv_model.specs.Reconstruction.{grey}
+use Rattle.hv_recon_model.specs.BlankLaws.{grey}
+use Rattle.hv_deblock_model.specs.FlatPictures.{FlatPicturesAreShown}
 use Rattle.hv_model.specs.Parsing.{parsed_units, parsed_of}
 use Rattle.hv_model.specs.Decoding.{shown_of, decode_of}
 use Rattle.hv_model.proofs.WorkedStreams.{eighty_bytes, eighty_bytes_decoded}
@@ -228,12 +229,12 @@ with_zeros_stream a b c d e =
 with_one_each : with_zeros 1 1 1 1 0 ≡ eighty_bytes
 with_one_each = refl
 
-zero_bytes_accepted : (a b c d e : ℕ) →
+zero_bytes_accepted : FlatPicturesAreShown → (a b c d e : ℕ) →
     decode_of (with_zeros a b c d e) ≡ Some (crop (grey 64 64) 64 64 ∷ [])
-zero_bytes_accepted a b c d e =
+zero_bytes_accepted flat a b c d e =
     let these : units_of (with_zeros a b c d e) ≡ Some four_units =
     streams_read (with_zeros a b c d e) four_units (with_zeros_stream a b c d e) in
     let those : units_of eighty_bytes ≡ Some four_units =
     streams_read eighty_bytes four_units (with_zeros_stream 1 1 1 1 0) in
     ap (λ found. option_and_then shown_of (option_and_then parsed_units found))
-    (these ∙ sym those) ∙ eighty_bytes_decoded
+    (these ∙ sym those) ∙ eighty_bytes_decoded flat

@@ -4,11 +4,20 @@ use Rattle.std.specs.Prelude.{Option, Some, None, option_map}
 use Rattle.hv_types.specs.declared.bins.SliceKind.{SliceKind}
 use Rattle.hv_types.specs.declared.bins.SliceKind.TheVariants.{I, P}
 use Rattle.hv_types.specs.Video.{crop}
+use Rattle.hv_lemmas.specs.Lists.{tabulate}
+use Rattle.hv_sample_model.specs.Blocks.{sum_of, total_of}
+use Rattle.hv_sample_model.specs.IntraPrediction.{predicted}
+use Rattle.hv_sample_model.specs.InverseTransform.{residual}
 use Rattle.hv_group_model.specs.Structure.{Kept}
 use Rattle.hv_stream_model.specs.Headers.{Size, SliceHeader}
+use Rattle.hv_unit_model.specs.Trees.{no_levels, no_units}
+use Rattle.hv_unit_model.specs.Sites.{sites, column_of, row_of, crosses, is_outside}
+use Rattle.hv_slice_model.specs.BlankUnits.{blank_node}
 use Rattle.hv_slice_model.specs.Slices.{idr_header, set_counts, list_0}
 use Rattle.hv_model.specs.Parsing.{CodedPicture, Sequence, sequences_of, cut_at_idrs}
-use Rattle.hv_model.specs.Reconstruction.{grey}
+use Rattle.hv_recon_model.specs.Reconstruction.{decoded_block, decoded_tree, decoded_trees, unfiltered}
+use Rattle.hv_recon_model.specs.BlankLaws.{grey}
+use Rattle.hv_model.specs.Encoding.{coded_units}
 use Rattle.hv_model.specs.Decoding.{decoded_sequence, by_count, shown_of}
 
 abbrev kept : ℕ → Bool → Kept
@@ -24,7 +33,7 @@ header slice_type count before after = record {
 }
 
 abbrev coded : SliceHeader → CodedPicture
-coded header = record { header = header; units = [] }
+coded header = record { header = header; units = coded_units (sites 8 8) }
 
 abbrev first : CodedPicture
 first = coded (idr_header 30)
@@ -76,15 +85,18 @@ last_before_middle =
     []
 
 coded_in_this_order : decoded_counts last_before_middle ≡ Some (0 ∷ 2 ∷ 1 ∷ [])
+unfolding sites blank_node crosses is_outside column_of row_of no_units no_levels decoded_block decoded_tree decoded_trees unfiltered
 coded_in_this_order = refl
 
 shown_in_another : shown_counts last_before_middle ≡ Some (0 ∷ 1 ∷ 2 ∷ [])
+unfolding sites blank_node crosses is_outside column_of row_of no_units no_levels decoded_block decoded_tree decoded_trees unfiltered
 shown_in_another = refl
 
 -- counts may leave gaps
 gaps : shown_counts
     (first ∷ coded (header P 127 (kept 127 true ∷ []) []) ∷
     coded (header I 64 [] (kept 63 false ∷ [])) ∷ []) ≡ Some (0 ∷ 64 ∷ 127 ∷ [])
+unfolding sites blank_node crosses is_outside column_of row_of no_units no_levels decoded_block decoded_tree decoded_trees unfiltered
 gaps = refl
 
 no_idr_picture : decoded_counts (coded (header I 1 [] []) ∷ []) ≡ None
@@ -92,10 +104,12 @@ no_idr_picture = refl
 
 -- a set that names a picture that never came
 missing_picture : decoded_counts (first ∷ coded (header P 3 (kept 1 true ∷ []) []) ∷ []) ≡ None
+unfolding sites blank_node crosses is_outside column_of row_of no_units no_levels decoded_block decoded_tree decoded_trees unfiltered
 missing_picture = refl
 
 -- .. also where it isn't used
 missing_and_unused : decoded_counts (first ∷ coded (header I 3 (kept 1 false ∷ []) []) ∷ []) ≡ None
+unfolding sites blank_node crosses is_outside column_of row_of no_units no_levels decoded_block decoded_tree decoded_trees unfiltered
 missing_and_unused = refl
 
 -- .. and one that was dropped: the set of picture 2 is without picture 0
@@ -103,6 +117,7 @@ dropped_picture :
     decoded_counts
     (first ∷ second ∷ coded (header P 2 (kept 1 true ∷ []) []) ∷
     coded (header P 3 (kept 3 true ∷ []) []) ∷ []) ≡ None
+unfolding sites blank_node crosses is_outside column_of row_of no_units no_levels decoded_block decoded_tree decoded_trees unfiltered
 dropped_picture = refl
 
 -- .. and one that is kept by every set between
@@ -110,6 +125,7 @@ kept_picture :
     decoded_counts
     (first ∷ second ∷ coded (header P 2 (kept 1 true ∷ kept 2 false ∷ []) []) ∷
     coded (header P 3 (kept 3 true ∷ []) []) ∷ []) ≡ Some (0 ∷ 1 ∷ 2 ∷ 3 ∷ [])
+unfolding sites blank_node crosses is_outside column_of row_of no_units no_levels decoded_block decoded_tree decoded_trees unfiltered
 kept_picture = refl
 
 count_comes_twice : decoded_counts (first ∷ second ∷ second ∷ []) ≡ None
@@ -126,10 +142,12 @@ counts_begin_anew :
     shown_of (sequences_of small (first ∷ second ∷ first ∷ second ∷ [])) ≡
     Some
     (crop (grey 8 8) 6 8 ∷ crop (grey 8 8) 6 8 ∷ crop (grey 8 8) 6 8 ∷ crop (grey 8 8) 6 8 ∷ [])
+unfolding sites blank_node crosses is_outside column_of row_of no_units no_levels decoded_block decoded_tree decoded_trees unfiltered predicted residual sum_of total_of tabulate
 counts_begin_anew = refl
 
 nothing_kept_across :
     shown_of
     (sequences_of small (first ∷ second ∷ first ∷ coded (header P 2 (kept 1 true ∷ []) []) ∷ [])) ≡
     None
+unfolding sites blank_node crosses is_outside column_of row_of no_units no_levels decoded_block decoded_tree decoded_trees unfiltered
 nothing_kept_across = refl

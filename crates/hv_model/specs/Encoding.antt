@@ -14,7 +14,7 @@ use Rattle.hv_unit_model.specs.Trees.{CodingTreeUnit}
 use Rattle.hv_unit_model.specs.Sites.{Site}
 use Rattle.hv_slice_model.specs.BlankUnits.{blank_units}
 use Rattle.hv_slice_model.specs.Slices.{picture_sites, header_in, unit_of_slice}
-use Rattle.hv_model.specs.Reconstruction.{grey, filtered_picture}
+use Rattle.hv_recon_model.specs.BlankLaws.{grey}
 
 -- ---- a picture of a group
 
@@ -30,11 +30,9 @@ picture_unit cfg count picture =
     (coded_units (picture_sites cfg)))
 
 -- the reconstruction of a picture before it is cropped: where nothing is chosen, every sample is
--- the middle one before the in-loop filters
+-- the middle one, before the in-loop filters and behind them
 abbrev pub recon_picture : Settings → Picture
-recon_picture cfg =
-    filtered_picture (coded_units (picture_sites cfg))
-    (grey (padded_width cfg) (padded_height cfg))
+recon_picture cfg = grey (padded_width cfg) (padded_height cfg)
 
 -- ---- a group
 

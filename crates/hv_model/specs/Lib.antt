@@ -1,6 +1,4 @@
 pub mod Reconstruction
-pub mod Deblocking
-pub mod SampleAdaptiveOffset
 pub mod Parsing
 pub mod Decoding
 pub mod Encoding

@@ -3,6 +3,8 @@
 ghost use Rattle.hv_model.specs.RoundTrip.{DecodingGivesReconstruction, EachIsReconstructed};
 ghost use Rattle.hv_model.specs.Built.{BuiltIsDecided};
 
+use hv_deblock_model::flat_pictures_are_kept;
+use hv_recon_model::blank_pictures_are_grey;
 use hv_stream_model::{
     other_slices_are_codable, other_slices_are_read, slices_of_groups_are_allowed,
 };
@@ -16,6 +18,8 @@ pub fn decoding_gives_reconstruction()
     other_slices_are_read();
     other_slices_are_codable();
     slices_of_groups_are_allowed();
+    blank_pictures_are_grey();
+    flat_pictures_are_kept();
 }
 
 /// There are as many reconstructed pictures as pictures.

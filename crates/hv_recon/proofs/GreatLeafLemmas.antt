@@ -1,7 +1,7 @@
 -- A leaf of 64x64: what is decoded behind its four transform units, and that they are all of the
 -- coding tree block.
-use Rattle.std.proofs.Common.{◌≡◌, ℕ, ◌+◌, ◌*◌, ◌%◌, ◌<◌, ◌≤◌, true, false, List, [], ◌∷◌, refl, sym, ap, ◌∙◌, arith}
-use Rattle.std.specs.Prelude.{Some, slice_get, option_and_then, nat_lt}
+use Rattle.std.proofs.Common.{◌≡◌, ℕ, ◌+◌, ◌%◌, ◌<◌, ◌≤◌, false, List, [], ◌∷◌, refl, ap, ◌∙◌, arith}
+use Rattle.std.specs.Prelude.{Some, slice_get, option_and_then}
 use Rattle.std.proofs.lemmas.Bool.{ltb-true}
 use Rattle.std.proofs.lemmas.Bool.Decides.{nat_tests}
 use Rattle.std.proofs.Math.Dec.{lit<, lit≤}
@@ -10,10 +10,10 @@ use Rattle.hv_block.specs.Plans.{CtbPlan}
 use Rattle.hv_block.specs.Samples.{Samples}
 use Rattle.hv_plan.specs.declared.prediction.Pred.TheVariants.{Intra as IntraPred}
 use Rattle.hv_unit_model.specs.Trees.{Intra, side, TransformUnit}
-use Rattle.hv_unit_model.specs.Sites.{Site, x0, y0, squares, address_of, column_of, row_of}
+use Rattle.hv_unit_model.specs.Sites.{Site, x0, y0, column_of, row_of}
 use Rattle.hv_unit_model.specs.Plans.{transform_unit_at, leaf_at}
 use Rattle.hv_recon_model.specs.Reconstruction.{Decoded, square_at, decoded_unit, decoded_quarters, decoded_tree}
-use Rattle.hv_recon_model.specs.SeenSamples.{comes_before, by_rows}
+use Rattle.hv_recon_model.specs.SeenSamples.{comes_before}
 use Rattle.hv_recon.specs.Leaves.{AreSeen, lists_of_plan, DecodesLeaf, KeepsOthers, KeepsOtherSamples}
 use Rattle.hv_recon.specs.Units.{IsUnitPut, AreQuartersPut}
 use Rattle.hv_recon.proofs.UnitLemmas.{is_node, UnitInPicture, unit_behind}

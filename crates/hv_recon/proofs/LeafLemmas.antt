@@ -1,9 +1,6 @@
 -- A leaf: what is decoded behind it, and which samples are kept.
-use Rattle.std.proofs.Common.{◌≡◌, ℕ, zero, suc, ◌+◌, ◌*◌, ◌%◌, ◌<◌, ◌≤◌, true, false, List, length, get_or, refl, sym, ap, subst, ◌∙◌, arith}
-use Rattle.std.specs.Prelude.{Some, slice_get, option_and_then, nat_lt}
-use Rattle.std.proofs.lemmas.Bool.{ltb-true}
-use Rattle.std.proofs.lemmas.Bool.Decides.{nat_tests}
-use Rattle.std.proofs.Math.Dec.{lit<, lit≤}
+use Rattle.std.proofs.Common.{◌≡◌, ℕ, zero, suc, ◌+◌, ◌%◌, ◌<◌, ◌≤◌, List, length, get_or, refl, sym, ap, ◌∙◌, arith}
+use Rattle.std.specs.Prelude.{Some, slice_get}
 use Rattle.std.proofs.lemmas.Option.{slice_get-get_or}
 use Rattle.hv_lemmas.proofs.OptionLemmas.{some_same}
 use Rattle.hv_block.specs.declared.edges.Neighbours.{Neighbours}
@@ -11,15 +8,14 @@ use Rattle.hv_block.specs.Plans.{CtbPlan}
 use Rattle.hv_block.specs.Samples.{Samples}
 use Rattle.hv_plan.specs.declared.prediction.Pred.TheVariants.{Intra as IntraPred}
 use Rattle.hv_plan.specs.declared.prediction.Unit.{Unit}
-use Rattle.hv_unit_model.specs.Trees.{Intra, side}
-use Rattle.hv_unit_model.specs.Sites.{Site, x0, y0, squares, address_of, column_of, row_of}
-use Rattle.hv_unit_model.specs.Plans.{transform_unit_at, transform_units_at, leaf_at}
-use Rattle.hv_recon_model.specs.Reconstruction.{Decoded, square_at, decoded_unit, decoded_quarters, decoded_tree}
-use Rattle.hv_recon_model.specs.SeenSamples.{comes_before, by_rows}
+use Rattle.hv_unit_model.specs.Trees.{Intra}
+use Rattle.hv_unit_model.specs.Sites.{Site, x0, y0, squares}
+use Rattle.hv_unit_model.specs.Plans.{transform_unit_at, leaf_at}
+use Rattle.hv_recon_model.specs.Reconstruction.{Decoded, square_at, decoded_unit, decoded_tree}
 use Rattle.hv_recon_model.proofs.SeenLemmas.{before_stays, behind_stays}
 use Rattle.hv_recon_model.proofs.SeenNodeLemmas.{luma_between, chroma_between}
-use Rattle.hv_recon.specs.Leaves.{AreSeen, lists_of_plan, leaf_of_plan, DecodesLeaf, KeepsOthers, KeepsOtherSamples}
-use Rattle.hv_recon.specs.Units.{IsUnitPut, AreQuartersPut}
+use Rattle.hv_recon.specs.Leaves.{lists_of_plan, DecodesLeaf, KeepsOtherSamples}
+use Rattle.hv_recon.specs.Units.{IsUnitPut}
 use Rattle.hv_recon.proofs.UnitLemmas.{is_node, UnitInPicture, unit_behind}
 
 abbrev pub intra_unit : ℕ → ℕ → Unit

@@ -7,6 +7,7 @@ mod PutUnitLemmas
 pub mod BlockLemmas
 pub mod ChoiceLemmas
 pub mod NextBlockLemmas
+mod NoLevelLemmas
 pub mod NodeLemmas
 pub mod PictureLemmas
 mod SumLemmas

@@ -1,5 +1,5 @@
 -- A transform unit: where its blocks and its levels lie, and what is decoded behind it.
-use Rattle.std.proofs.Common.{◌≡◌, ℕ, zero, suc, ◌+◌, ◌-◌, ◌*◌, ◌/◌, ◌%◌, ◌^◌, ◌<◌, ◌≤◌, true, false, List, refl, sym, ap, ◌∙◌, arith}
+use Rattle.std.proofs.Common.{◌≡◌, ℕ, zero, suc, ◌+◌, ◌-◌, ◌*◌, ◌/◌, ◌%◌, ◌^◌, ◌<◌, ◌≤◌, true, false, List, refl, ◌∙◌, arith}
 use Rattle.std.specs.Prelude.{Some, ℤ}
 use Rattle.std.proofs.Math.Dec.{lit≤}
 use Rattle.hv_tables.specs.Quantisers.{chroma_qp}
@@ -11,7 +11,7 @@ use Rattle.hv_unit_model.specs.Sites.{Site, ctb_column, ctb_row, column_of, row_
 use Rattle.hv_unit_model.specs.Plans.{part, transform_unit_at}
 use Rattle.hv_unit_model.proofs.NodeLemmas.{IsNode}
 use Rattle.hv_recon_model.specs.Reconstruction.{Component, Decoded, chroma_of, square_at, decoded_block, decoded_unit, all_decoded}
-use Rattle.hv_recon_model.specs.SeenSamples.{IsPut, luma_spot, chroma_spot, seen_line, seen_block}
+use Rattle.hv_recon_model.specs.SeenSamples.{luma_spot, chroma_spot}
 use Rattle.hv_recon_model.proofs.SeenLemmas.{FitsIn, FitsInPicture}
 use Rattle.hv_recon_model.proofs.SeenNodeLemmas.{node_ends, power_luma, power_chroma, luma_between, chroma_between, block_behind}
 use Rattle.hv_recon.specs.Leaves.{AreSeen, lists_of_plan, luma_around, cb_around, cr_around}

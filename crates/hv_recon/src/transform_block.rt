@@ -5,6 +5,7 @@ ghost use Rattle.hv_lemmas.specs.Clipping.{clip1};
 ghost use Rattle.hv_sample_model.specs.IntraPrediction.{predicted, substituted};
 ghost use Rattle.hv_sample_model.specs.InverseTransform.{residual};
 ghost use Rattle.hv_recon_model.specs.Reconstruction.{sum_of};
+ghost use Rattle.hv_recon.specs.Levels.{is_other_than_0, is_coded};
 
 use hv_intra::{Line, predict_intra};
 use hv_transform::{inverse, scale};
@@ -38,6 +39,43 @@ pub fn rebuild_intra(
 {
     let line = Line::of(known);
     predict_intra(&line, log2, mode, luma, out);
+    add_levels(levels, log2, qp, out);
+}
+
+/// Whether a level isn't 0.
+#[inline(always)]
+fn is_other_than_0(level: i16) -> bool
+    ensures { result ≡ is_other_than_0 level }
+{
+    level != 0
+}
+
+/// Whether one of these levels isn't 0.
+#[inline(always)]
+fn is_coded(levels: &[i16]) -> bool
+    ensures { result ≡ is_coded levels.now }
+{
+    for level in levels {
+        if is_other_than_0(*level) {
+            return true;
+        }
+    }
+    false
+}
+
+/// Adds the residual of these levels to the samples of a block; where all are 0 it is 0, and the
+/// samples are kept.
+fn add_levels(levels: &[i16], log2: u8, qp: u8, out: &mut [u8])
+    requires least { 2 ≤ log2 }
+    requires most { log2 ≤ 5 }
+    requires quantiser { qp ≤ 51 }
+    requires levels { length levels.now ≡ 4 ^ log2 }
+    requires room { length out.old ≡ 4 ^ log2 }
+    ensures { out.new ≡ sum_of out.old (residual log2 qp levels.now) }
+{
+    if !is_coded(levels) {
+        return;
+    }
     match log2 {
         2 => add_residual::<16>(levels, log2, qp, out),
         3 => add_residual::<64>(levels, log2, qp, out),

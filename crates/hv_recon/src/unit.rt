@@ -127,15 +127,41 @@ fn rebuild_block(view: &View<'_>, spot: Spot, levels: &[i16], samples: &mut [u8]
         spot.y spot.log2)) samples.old samples.new }
     ensures count { length samples.new ≡ view.now.side * view.now.side }
 {
-    let count = area_of(spot.log2);
+    match spot.log2 {
+        2 => rebuild_samples::<16>(view, spot, levels, samples),
+        3 => rebuild_samples::<64>(view, spot, levels, samples),
+        4 => rebuild_samples::<256>(view, spot, levels, samples),
+        _ => rebuild_samples::<1024>(view, spot, levels, samples),
+    }
+}
+
+/// Rebuilds a transform block of `COUNT` samples.
+fn rebuild_samples<const COUNT: usize>(
+    view: &View<'_>,
+    spot: Spot,
+    levels: &[i16],
+    samples: &mut [u8],
+)
+    requires count { COUNT ≡ 4 ^ spot.log2 }
+    requires area { COUNT ≡ 2 ^ spot.log2 * 2 ^ spot.log2 }
+    requires few { COUNT ≤ 1024 }
+    requires across { spot.x + 2 ^ spot.log2 ≤ view.now.side }
+    requires down { spot.y + 2 ^ spot.log2 ≤ view.now.side }
+    requires levels { length levels.now ≡ 2 ^ spot.log2 * 2 ^ spot.log2 }
+    requires whole { length samples.old ≡ view.now.side * view.now.side }
+    ensures put { IsPut view.now.side spot.x spot.y spot.log2
+        (seen_block spot.log2 spot.mode spot.luma spot.qp levels.now
+        (seen_line (spot_of view.now) (around_of view.now.around) samples.old spot.address spot.x
+        spot.y spot.log2)) samples.old samples.new }
+    ensures count { length samples.new ≡ view.now.side * view.now.side }
+{
     let line = view.line(samples, spot.address, spot.x, spot.y, spot.log2);
     let known = &line[..4 * side_of(spot.log2) + 1];
-    let mut room = [0; 1024];
-    let block = &mut room[..count];
+    let mut block = [0; COUNT];
     rebuild_intra(
-        known, levels, spot.log2, spot.qp, spot.mode, spot.luma, block,
+        known, levels, spot.log2, spot.qp, spot.mode, spot.luma, &mut block,
     );
-    put_block(view.side, spot.x, spot.y, spot.log2, block, samples);
+    put_block(view.side, spot.x, spot.y, spot.log2, &block, samples);
 }
 
 /// Rebuilds the block of luma of a transform unit of this size at this address.

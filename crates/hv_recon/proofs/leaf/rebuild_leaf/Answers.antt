@@ -1,10 +1,9 @@
-use Rattle.std.proofs.Common.{◌≡◌, ℕ, ◌+◌, ◌%◌, ◌<◌, ◌≤◌, length, get_or, ap, sym, subst, ◌∙◌, arith}
-use Rattle.std.specs.Prelude.{Some, slice_get}
-use Rattle.hv_unit_model.specs.Trees.{side}
-use Rattle.hv_unit_model.specs.Sites.{x0, y0, squares}
+use Rattle.std.proofs.Common.{◌≡◌, ◌%◌, ap, sym, subst, ◌∙◌, arith}
+use Rattle.std.specs.Prelude.{slice_get}
+use Rattle.hv_unit_model.specs.Sites.{squares}
 use Rattle.hv_recon.specs.Leaves.{DecodesLeaf, KeepsOtherSamples}
 use Rattle.hv_recon.proofs.UnitLemmas.{UnitInPicture}
-use Rattle.hv_recon.proofs.LeafLemmas.{intra_unit, small_leaf, unit_keeps, unit_there, pred_there}
+use Rattle.hv_recon.proofs.LeafLemmas.{small_leaf, unit_keeps, unit_there, pred_there}
 use Rattle.hv_recon.proofs.GreatLeafLemmas.{great_leaf, quarters_keep}
 use Rattle.hv_recon.proofs.leaf.rebuild_leaf.Goals as goal
 

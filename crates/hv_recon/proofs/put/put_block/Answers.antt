@@ -1,5 +1,4 @@
-use Rattle.std.proofs.Common.{◌≡◌, ℕ, ◌+◌, ◌-◌, ◌*◌, ◌^◌, ◌<◌, ◌≤◌, List, length, arith, get_or, ap, ap₂, sym, subst, ◌∙◌}
-use Rattle.hv_recon.specs.Rows.{with_row}
+use Rattle.std.proofs.Common.{◌≡◌, ℕ, ◌+◌, ◌*◌, ◌^◌, List, length, arith, get_or, ap, ap₂, sym, subst, ◌∙◌}
 use Rattle.hv_recon.proofs.PutRowLemmas.{AreRowsPut, row_put, long_row, none_put, all_put, row_fits, row_of_block, row_ends, length-row_of_block, row_sample}
 use Rattle.hv_recon.proofs.put.put_block.Goals as goal
 

@@ -1,7 +1,6 @@
-use Rattle.std.proofs.Common.{◌≡◌, ℕ, ◌+◌, ◌-◌, ◌*◌, ◌^◌, ◌≤◌, true, false, List, take, drop, refl, sym, ap, ◌∙◌, arith}
-use Rattle.hv_unit_model.specs.Plans.{part}
+use Rattle.std.proofs.Common.{◌≡◌, ℕ, ◌+◌, ◌-◌, ◌*◌, ◌^◌, true, false, take, drop, refl, sym, ap, ◌∙◌, arith}
 use Rattle.hv_recon.specs.Views.{around_of}
-use Rattle.hv_recon.proofs.UnitLemmas.{UnitEnds, unit_ends}
+use Rattle.hv_recon.proofs.UnitLemmas.{unit_ends}
 use Rattle.hv_recon.proofs.PutUnitLemmas.{same_put}
 use Rattle.hv_recon.proofs.unit.rebuild_unit.Goals as goal
 

@@ -1,9 +1,9 @@
-use Rattle.std.proofs.Common.{◌≡◌, ℕ, ◌+◌, ◌*◌, ◌^◌, ◌-◌, List, ◌++◌, arith, length-set, refl, ap, ap₂, sym, subst, ◌∙◌, length, take}
+use Rattle.std.proofs.Common.{◌≡◌, ℕ, ◌+◌, ◌*◌, ◌^◌, ◌-◌, ◌++◌, arith, length-set, refl, ap, ap₂, sym, ◌∙◌, take}
 use Rattle.std.specs.Prelude.{Option}
-use Rattle.std.proofs.lemmas.List.{length-replicate, append-nil}
+use Rattle.std.proofs.lemmas.List.{append-nil}
 use Rattle.hv_lemmas.specs.Lists.{tabulate}
 use Rattle.hv_block.proofs.EdgeLemmas.{tabulate-filled}
-use Rattle.hv_recon_model.specs.SeenSamples.{Spot, SamplesAround, look_around, seen_line}
+use Rattle.hv_recon_model.specs.SeenSamples.{Spot, SamplesAround, look_around}
 use Rattle.hv_recon.specs.Views.{spot_of, around_of}
 use Rattle.hv_recon.proofs.FilledLineLemmas.{left_at, above_at, filled_behind}
 use Rattle.hv_recon.proofs.around.View.line.Goals as goal

@@ -1,4 +1,4 @@
-use Rattle.std.proofs.Common.{◌≡◌, ◌+◌, ◌*◌, ◌^◌, ◌++◌, length, take}
+use Rattle.std.proofs.Common.{◌≡◌, ◌+◌, ◌++◌, length, take}
 use Rattle.hv_lemmas.specs.Lists.{tabulate}
 use Rattle.hv_recon.specs.Views.{spot_of, around_of}
 use Rattle.hv_recon.proofs.FilledLineLemmas.{left_at, above_at}

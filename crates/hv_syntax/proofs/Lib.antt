@@ -4,10 +4,11 @@ mod CountLemmas
 mod CountedLemmas
 mod LeafLemmas
 mod ModeLemmas
-mod NamingLemmas
-mod NodeLemmas
+pub mod NamingLemmas
+pub mod NodeLemmas
 mod OffsetLemmas
 mod PartLemmas
+pub mod PictureLemmas
 mod QuadtreeLemmas
 mod SeenLemmas
 mod UnitLemmas

@@ -1,12 +1,12 @@
 -- When the units of a node name its coding units, by the code's tests.
 use Rattle.std.proofs.Common.{◌≡◌, ℕ, zero, suc, ◌+◌, ◌-◌, ◌*◌, ◌<◌, ◌≤◌, Bool, true, false, List, ◌++◌, replicate, length, refl, ap, sym, ◌∙◌, subst, arith, inl, inr}
-use Rattle.std.specs.Prelude.{slice_get, slice_index_or, Option, Some, None, ◌⊎◌}
+use Rattle.std.specs.Prelude.{slice_get, slice_index_or, Some, ◌⊎◌}
 use Rattle.std.proofs.lemmas.Bool.{cases_lt, true≢false}
 use Rattle.std.proofs.lemmas.List.{get_or-replicate}
 use Rattle.std.proofs.lemmas.Option.{slice_get-get_or}
 use Rattle.hv_block.specs.Plans.{opening_unit}
 use Rattle.hv_plan.specs.declared.prediction.Unit.{Unit}
-use Rattle.hv_unit_model.specs.Trees.{Prediction, TransformUnit, Leaf, Outside, depth_of, log2TrafoSize, transform_units}
+use Rattle.hv_unit_model.specs.Trees.{Prediction, TransformUnit, Leaf, Split, Outside, depth_of, log2TrafoSize, transform_units}
 use Rattle.hv_unit_model.specs.Sites.{Site, squares, is_outside}
 use Rattle.hv_unit_model.specs.EarlierUnits.{Square, Unavailable, Coded, squares_of}
 use Rattle.hv_unit_model.specs.Plans.{Plan, prediction_of, coded_square, square_or_none, transform_units_at, tree_at}
@@ -184,18 +184,20 @@ whole_at site plan size address i all parts inside most four (inr a) (inr b) (in
     part_at site plan size address (3 * squares size) i all c (omega (arith, most))
     (λ j h. (four j h).3) parts.fourth inside
 
-names_split : (site : Site) (plan : Plan) (size address : ℕ) (u : Unit) →
-    is_outside site address ≡ false → slice_get plan.units address ≡ Some u →
-    ends (suc size) u.depth ≡ false → Parts site plan size (squares size) address →
-    NamesNode site plan (suc size) address
-names_split site plan size address u outside there split parts =
+pub names_by_parts : (site : Site) (plan : Plan) (size address : ℕ) →
+    tree_at site plan (suc size) address ≡
+    Split (tree_at site plan size address) (tree_at site plan size (address + squares size))
+    (tree_at site plan size (address + 2 * squares size))
+    (tree_at site plan size (address + 3 * squares size)) →
+    Parts site plan size (squares size) address → NamesNode site plan (suc size) address
+names_by_parts site plan size address is_split parts =
     let n : ℕ = squares size in
     let at : ℕ → List Square = λ a. squares_of size (tree_at site plan size a) in
     let count : (a : ℕ) → length (at a) ≡ squares size = λ a. length-tree_at site plan size a in
     let whole : List Square = at address ++ (at (address + n) ++ (at (address + 2 * n) ++
     at (address + 3 * n))) in
     let is_whole : squares_of (suc size) (tree_at site plan (suc size) address) ≡ whole =
-    ap (squares_of (suc size)) (split_tree site plan size address u outside there split) in
+    ap (squares_of (suc size)) is_split in
     let four = four_at n (at address) (at (address + n)) (at (address + 2 * n))
     (at (address + 3 * n)) (count address) (count (address + n)) (count (address + 2 * n)) in
     record {
@@ -203,6 +205,14 @@ names_split site plan size address u outside there split parts =
           whole_at site plan size address i whole parts inside h four
           (cases_lt i n) (cases_lt i (2 * n)) (cases_lt i (3 * n));
     }
+
+names_split : (site : Site) (plan : Plan) (size address : ℕ) (u : Unit) →
+    is_outside site address ≡ false → slice_get plan.units address ≡ Some u →
+    ends (suc size) u.depth ≡ false → Parts site plan size (squares size) address →
+    NamesNode site plan (suc size) address
+names_split site plan size address u outside there split parts =
+    names_by_parts site plan size address (split_tree site plan size address u outside there split)
+    parts
 
 -- by the code's step and size
 abbrev NamedBySplit : Site → Plan → ℕ → ℕ → ℕ → Unit → ℕ → Type 0

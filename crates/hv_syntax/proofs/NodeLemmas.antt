@@ -1,15 +1,14 @@
 -- Nodes of a block's quadtree: the trees that the units stand for, their squares, and their bins.
-use Rattle.std.proofs.Common.{◌≡◌, ℕ, zero, suc, ◌+◌, ◌-◌, ◌*◌, ◌<◌, ◌≤◌, Bool, true, false, List, ◌++◌, length, refl, ap, sym, ◌∙◌, subst, arith, length-append}
-use Rattle.std.specs.Prelude.{slice_get, slice_index_or, Option, Some, None, ◌⊎◌}
+use Rattle.std.proofs.Common.{◌≡◌, ℕ, zero, suc, ◌+◌, ◌-◌, ◌*◌, ◌<◌, ◌≤◌, true, false, List, ◌++◌, length, refl, ap, sym, ◌∙◌, subst, arith, length-append}
+use Rattle.std.specs.Prelude.{slice_get, slice_index_or, Some, ◌⊎◌}
 use Rattle.std.proofs.Common.{inl, inr}
 use Rattle.std.proofs.lemmas.Bool.{cases_lt, true≢false}
-use Rattle.std.proofs.lemmas.List.{get_or_append_left, get_or-append_right, length-replicate}
-use Rattle.hv_plan.specs.declared.prediction.Pred.{Pred}
+use Rattle.std.proofs.lemmas.List.{get_or_append_left, get_or-append_right}
 use Rattle.hv_plan.specs.declared.prediction.Unit.{Unit}
-use Rattle.hv_unit_model.specs.Trees.{Prediction, TransformUnit, Tree, Leaf, Split, Outside, depth_of, log2TrafoSize, transform_units}
+use Rattle.hv_unit_model.specs.Trees.{Tree, Split, Outside}
 use Rattle.hv_unit_model.specs.Sites.{Site, squares, is_outside}
-use Rattle.hv_unit_model.specs.EarlierUnits.{Square, Unavailable, Coded, squares_of, after}
-use Rattle.hv_unit_model.specs.Plans.{Plan, prediction_of, transform_units_at, leaf_of, tree_at}
+use Rattle.hv_unit_model.specs.EarlierUnits.{Square, Unavailable, squares_of, after}
+use Rattle.hv_unit_model.specs.Plans.{Plan, leaf_of, tree_at}
 use Rattle.hv_syntax.specs.declared.block.Block.{Block}
 use Rattle.hv_syntax.specs.Blocks.{plan_of, place_of, node_of, ends}
 use Rattle.hv_syntax.specs.Squares.{own_square, Shows, NamesNode}
@@ -55,21 +54,27 @@ behind n m a xs ys f e g h k l (inr above) =
     get_or-append_right xs ys n a Unavailable e above ∙
     k (a - n) (omega (arith, l, above)) same ∙ ap f same
 
+pub shows_more : (site : Site) (p : Plan) (size address : ℕ) (earlier : List Square) →
+    Shows site p address earlier → NamesNode site p size address →
+    Shows site p (address + squares size) (after size earlier (tree_at site p size address))
+shows_more site p size address earlier shows names =
+    let own : List Square = squares_of size (tree_at site p size address) in
+    let n : length own ≡ squares size = length-tree_at site p size address in
+    record {
+      count = length-append earlier own ∙ omega (arith, n, shows.count);
+      square = λ a below inside.
+          behind address (squares size) a earlier own (own_square p) shows.count n
+          (λ h. shows.square a h inside)
+          (λ i h e. names.square i h (subst (λ (m : ℕ). is_outside site m ≡ false) (sym e)
+          inside))
+          below (cases_lt a address);
+    }
+
 pub shows_after : (b : Block) (size address : ℕ) (earlier : List Square) → Shows (place_of b) (plan_of b) address earlier →
     NamesNode (place_of b) (plan_of b) size address →
     Shows (place_of b) (plan_of b) (address + squares size) (after size earlier (node_of b size address))
 shows_after b size address earlier shows names =
-    let own : List Square = squares_of size (node_of b size address) in
-    let n : length own ≡ squares size = length-tree_at (place_of b) (plan_of b) size address in
-    record {
-      count = length-append earlier own ∙ omega (arith, n, shows.count);
-      square = λ a below inside.
-          behind address (squares size) a earlier own (own_square (plan_of b)) shows.count n
-          (λ h. shows.square a h inside)
-          (λ i h e. names.square i h (subst (λ (m : ℕ). is_outside (place_of b) m ≡ false) (sym e)
-          inside))
-          below (cases_lt a address);
-    }
+    shows_more (place_of b) (plan_of b) size address earlier shows names
 
 -- ---- the squares of a node are those of its four parts
 pub four_at : (n : ℕ) (xs ys zs ws : List Square) → length xs ≡ n → length ys ≡ n → length zs ≡ n →

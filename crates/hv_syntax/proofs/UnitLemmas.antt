@@ -1,17 +1,19 @@
 -- What is put of a coding tree unit (7.3.8.2).
-use Rattle.std.proofs.Common.{◌≡◌, ℕ, Bool, List, [], ◌∷◌, ◌++◌, length, map, refl, ◌∙◌, subst, append_assoc, arith}
+use Rattle.std.proofs.Common.{◌≡◌, ℕ, ◌<◌, Bool, false, cond, nat_eq, List, [], ◌∷◌, ◌++◌, length, map, refl, ◌∙◌, subst, append_assoc, arith}
 use Rattle.hv_types.specs.Bins.{Bin, Puts, terminate_bin}
 use Rattle.hv_residual_model.specs.UnitBins.{PutsUnit, slice_bin}
 use Rattle.hv_residual.proofs.PuttingLemmas.{Stands}
 use Rattle.hv_unit_model.specs.Trees.{Tree, CodingTreeUnit, greatest_size}
-use Rattle.hv_unit_model.specs.Sites.{Site}
+use Rattle.hv_unit_model.specs.Sites.{Site, row_of, is_outside}
 use Rattle.hv_unit_model.specs.EarlierUnits.{Square, Surroundings}
+use Rattle.hv_unit_model.specs.MostProbableModes.{candModeList, candIntraPredMode, candidates, dc}
 use Rattle.hv_unit_model.specs.Plans.{Plan, UnitsAround, tree_at, tree_of, in_block}
 use Rattle.hv_unit_model.specs.Bins.{sao_bins, bins_of_node, bins}
 use Rattle.hv_plan.specs.declared.offsets.SaoParam.{SaoParam}
 use Rattle.hv_syntax.specs.declared.block.Block.{Block}
-use Rattle.hv_syntax.specs.Blocks.{plan_of, place_of, node_of, AreBeside, Sees}
+use Rattle.hv_syntax.specs.Blocks.{plan_of, place_of, node_of, seen_left, seen_above, AreBeside, Sees}
 use Rattle.hv_syntax.proofs.AroundLemmas.{in_block_sees}
+use Rattle.hv_syntax.proofs.SeenLemmas.{candidates_seen}
 use Rattle.hv_syntax.specs.Squares.{Shows}
 
 pub shows_none : (site : Site) (plan : Plan) → Shows site plan 0 []
@@ -69,3 +71,21 @@ count_at n b around place p size a address earlier e f g beside count =
     let there : law place (plan_of b) a = subst (λ (x : Site). law x (plan_of b) a) e here in
     let planned : law place p a = subst (λ (q : Plan). law place q a) f there in
     subst (λ (m : ℕ). law place p m) g planned
+
+-- the same of the candidates of a unit, at which coding has come
+pub modes_at : (list : List ℕ) (b : Block) (around : UnitsAround) (place : Site) (p : Plan)
+    (address : ℕ) (earlier : List Square) → place_of b ≡ place → plan_of b ≡ p →
+    AreBeside b.beside around → address < 64 →
+    list ≡ candModeList (candIntraPredMode (seen_left b address))
+    (cond (nat_eq (row_of address) 0) dc (candIntraPredMode (seen_above b address))) →
+    Shows place p address earlier → is_outside place address ≡ false →
+    list ≡ candidates (in_block b.kind b.references place around) address earlier
+modes_at list b around place p address earlier e f beside h seen =
+    let law : Site → Plan → Type 0 = λ x q. Shows x q address earlier →
+    is_outside x address ≡ false →
+    list ≡ candidates (in_block b.kind b.references x around) address earlier in
+    let here : law (place_of b) (plan_of b) = λ shows inside.
+    seen ∙ candidates_seen b (in_block b.kind b.references (place_of b) around) address earlier h
+    (record { sees = in_block_sees b around beside; shows = shows; inside = inside }) in
+    let there : law place (plan_of b) = subst (λ (x : Site). law x (plan_of b)) e here in
+    subst (λ (q : Plan). law place q) f there

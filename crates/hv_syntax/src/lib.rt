@@ -16,6 +16,7 @@ mod motion;
 mod naming;
 mod near;
 mod offsets;
+mod probable_modes;
 mod quadtree;
 #[cfg(test)]
 mod recorder;
@@ -26,8 +27,10 @@ mod tests;
 mod transform;
 mod unit;
 
-pub use addresses::{address_of, column_of, row_of};
+pub use addresses::{address_of, column_of, crosses, is_outside, row_of, squares};
 pub use counting::count_luma_mode;
 pub use modes::most_probable;
 pub use naming::{names_its_node, names_its_units};
+pub use probable_modes::most_probable_modes;
+pub use site::Site;
 pub use unit::{count_node, put_ctb};

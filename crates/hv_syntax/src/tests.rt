@@ -5,8 +5,8 @@ ghost use Rattle.std.specs.Prelude.{◌≡◌, ◌<◌};
 use crate::recorder::Bin::{Bypass, Coded, Terminate};
 use crate::recorder::{Bin, Compared, Recorder};
 use crate::{
-    address_of, column_of, count_node, most_probable, names_its_node, names_its_units, put_ctb,
-    row_of,
+    address_of, column_of, count_node, most_probable, most_probable_modes, names_its_node,
+    names_its_units, put_ctb, row_of,
 };
 use hv_block::{Block, Edges, Neighbours};
 use hv_plan::{Mv, Node, Place, Pred, SaoComponent, SaoKind, SaoParam};
@@ -390,6 +390,26 @@ fn counts(
 fn bins_are_counted(rt: HostRuntime) -> Result<(), Fail> {
     assert!(rt; counts(rt.alloc(), SliceKind::I, &MODES[12], 56, 4)?);
     assert!(rt; counts(rt.alloc(), SliceKind::P, &INTERS[0], 15, 3)?);
+    Ok(())
+}
+
+/// The most probable modes of the unit at an address of a case.
+fn modes_of_case(alloc: Global, case: &Case, address: u8) -> Result<Option<[u8; 3]>, NoMemory>
+    requires { address < 64 }
+{
+    let Placed { place, near, block } = block_of_case(alloc, case)?;
+    if place.width == 0 {
+        return Ok(None);
+    }
+    Ok(Some(most_probable_modes(place, &near, &block.plan, address)))
+}
+
+/// Beside other blocks, and inside a block of four units.
+#[test]
+fn modes_are_seen_beside_units(rt: HostRuntime) -> Result<(), Fail> {
+    assert!(rt; modes_of_case(rt.alloc(), &MODES[0], 0)? == Some([26, 1, 0]));
+    assert!(rt; modes_of_case(rt.alloc(), &MODES[11], 32)? == Some([1, 10, 0]));
+    assert!(rt; modes_of_case(rt.alloc(), &MODES[11], 48)? == Some([10, 9, 11]));
     Ok(())
 }
 

@@ -1,6 +1,6 @@
 //! Coding tree units (7.3.8.2).
 
-ghost use Rattle.std.specs.Prelude.{◌≡◌, ◌<◌, ◌≤◌, ◌+◌, ◌-◌, List, length};
+ghost use Rattle.std.specs.Prelude.{◌≡◌, ◌<◌, ◌≤◌, ◌+◌, ◌-◌, ◌^◌, List, length};
 ghost use Rattle.hv_types.specs.Bins.{Puts};
 ghost use Rattle.hv_unit_model.specs.Plans.{NamesItsUnits, tree_at, tree_of, in_block};
 ghost use Rattle.hv_unit_model.specs.Bins.{bins, bins_of_node};
@@ -79,11 +79,12 @@ pub fn count_node(
     requires inside { address_of node.x node.y + squares (3 - node.depth) ≤ 64 }
     requires names { NamesNode place (lists_of_plan plan.now) (3 - node.depth)
         (address_of node.x node.y) }
-    ensures { (earlier : List Square) →
+    ensures value { (earlier : List Square) →
         Shows place (lists_of_plan plan.now) (address_of node.x node.y) earlier →
         result ≡ length (bins_of_node (in_block kind references place (around_of near.now))
         (3 - node.depth) (address_of node.x node.y) earlier
         (tree_at place (lists_of_plan plan.now) (3 - node.depth) (address_of node.x node.y))) }
+    ensures most { result < 2 ^ 46 }
 {
     let block = Block {
         kind,

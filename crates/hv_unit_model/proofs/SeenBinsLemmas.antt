@@ -49,24 +49,24 @@ most_squares (suc size) (Split a b c d) =
     most-split size a b c d (most_squares size a) (most_squares size b) (most_squares size c)
     (most_squares size d)
 
-behind : (size : ℕ) (earlier : List Square) (tree : Tree) →
+pub behind : (size : ℕ) (earlier : List Square) (tree : Tree) →
     length (after size earlier tree) ≤ length earlier + squares size
 behind size earlier tree =
     omega (arith, length-append earlier (squares_of size tree), most_squares size tree)
 
 -- ---- the same is seen
 
-abbrev SeeTheSame : Look → Look → Type 0
+abbrev pub SeeTheSame : Look → Look → Type 0
 SeeTheSame one other =
     (earlier : List Square) (column row : ℕ) → length earlier ≤ 64 → 7 ≤ column → column < 24 →
     7 ≤ row → row < 24 → one earlier column row ≡ other earlier column row
 
 module _ (slice_type : SliceKind) (references : ℕ) (here : Site) (one other : Look)
     (same : SeeTheSame one other) where
-  abbrev s : Surroundings
+  abbrev pub s : Surroundings
   s = record { slice_type = slice_type; references = references; site = here; look = one }
 
-  abbrev t : Surroundings
+  abbrev pub t : Surroundings
   t = record { slice_type = slice_type; references = references; site = here; look = other }
 
   same_at_left : (address : ℕ) (earlier : List Square) → length earlier ≤ 64 →
@@ -93,7 +93,7 @@ module _ (slice_type : SliceKind) (references : ℕ) (here : Site) (one other : 
       (suc size)) l + lies_deeper (depth_of (suc size)) r) value ∷ []))
       (same_at_left address earlier few) (same_above address earlier few)
 
-  same_candidates : (address : ℕ) (earlier : List Square) → length earlier ≤ 64 →
+  pub same_candidates : (address : ℕ) (earlier : List Square) → length earlier ≤ 64 →
       candidates s address earlier ≡ candidates t address earlier
   same_candidates address earlier few =
       ap₂ (λ l a. candModeList (candIntraPredMode l) (cond (nat_eq (row_of address) 0) dc

@@ -1,3 +1,4 @@
+pub mod AroundLemmas
 pub mod EdgeLemmas
 pub mod LendingLemmas
 mod PlanLemmas

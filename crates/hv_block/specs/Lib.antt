@@ -1,3 +1,4 @@
+pub mod Around
 pub mod BlockEdges
 pub mod Edges
 pub mod Lending

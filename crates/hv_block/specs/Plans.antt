@@ -1,5 +1,5 @@
 -- What is decided for a coding tree block, as lists.
-use Rattle.std.specs.Prelude.{◌≡◌, ℕ, ◌+◌, ◌-◌, ◌^◌, ◌≤◌, List, ◌++◌, length, take, drop, replicate, All, ℤ, pos}
+use Rattle.std.specs.Prelude.{◌≡◌, ℕ, ◌+◌, ◌-◌, ◌*◌, ◌^◌, ◌≤◌, List, ◌++◌, length, take, drop, replicate, All, ℤ, pos}
 use Rattle.hv_plan.specs.declared.prediction.Pred.{Pred}
 use Rattle.hv_plan.specs.declared.prediction.Pred.TheVariants.{Intra}
 use Rattle.hv_plan.specs.declared.prediction.Unit.{Unit}
@@ -53,3 +53,28 @@ with_units units from count unit =
 abbrev pub with_leaf : CtbPlan → ℕ → ℕ → Pred → CtbPlan
 with_leaf plan size address pred =
     record plan { units = with_units plan.units address (4 ^ size) (unit_of (3 - size) pred) }
+
+-- so many from this one on are those of another list
+abbrev pub with_part : {A : Type 0} → List A → List A → ℕ → ℕ → List A
+with_part list other from count =
+    take from list ++ (take count (drop from other) ++ drop (from + count) list)
+
+-- The squares of a node of this size are those of another plan, and so are its levels.
+abbrev pub with_node : CtbPlan → CtbPlan → ℕ → ℕ → CtbPlan
+with_node plan other size address =
+    plan_of_lists (with_part plan.units other.units address (4 ^ size))
+    (with_part plan.luma other.luma (64 * address) (64 * 4 ^ size))
+    (with_part plan.cb other.cb (16 * address) (16 * 4 ^ size))
+    (with_part plan.cr other.cr (16 * address) (16 * 4 ^ size))
+
+-- so many levels from this one on are 0
+abbrev pub with_zeros : List ℤ → ℕ → ℕ → List ℤ
+with_zeros levels from count =
+    take from levels ++ (replicate count (pos 0) ++ drop (from + count) levels)
+
+-- all levels of a node are 0
+abbrev pub without_levels : CtbPlan → ℕ → ℕ → CtbPlan
+without_levels plan size address =
+    plan_of_lists plan.units (with_zeros plan.luma (64 * address) (64 * 4 ^ size))
+    (with_zeros plan.cb (16 * address) (16 * 4 ^ size))
+    (with_zeros plan.cr (16 * address) (16 * 4 ^ size))

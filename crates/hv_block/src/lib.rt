@@ -2,12 +2,14 @@
 //! what the blocks around it see of it; and frames, which have a filtered picture.
 #![tactic(auto)]
 
+mod around;
 mod block;
 mod edges;
 mod frame;
 mod plan;
 mod samples;
 
+pub use around::neighbours_of;
 pub use block::{Block, Blocks};
 pub use edges::{Edges, Neighbours, address_of};
 pub use frame::{Frame, no_offsets};

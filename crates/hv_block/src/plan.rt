@@ -1,8 +1,8 @@
 //! What is decided for a coding tree block: the units of its squares, and its levels.
 
-ghost use Rattle.std.specs.Prelude.{◌≡◌, ◌+◌, ◌-◌, ◌^◌, ◌≤◌, length, IfOk, All};
+ghost use Rattle.std.specs.Prelude.{◌≡◌, ◌+◌, ◌-◌, ◌*◌, ◌^◌, ◌≤◌, length, IfOk, All};
 ghost use Rattle.std.specs.Borrow.{sem};
-ghost use Rattle.hv_block.specs.Plans.{HasDepth, with_units};
+ghost use Rattle.hv_block.specs.Plans.{HasDepth, with_units, with_part, with_zeros};
 
 use hv_plan::{Pred, Unit};
 use hv_types::NoMemory;
@@ -40,7 +40,7 @@ impl Model for CtbPlan {
 }
 
 impl CtbPlan {
-    ghost use Rattle.hv_block.specs.Plans.{opening_plan, with_leaf};
+    ghost use Rattle.hv_block.specs.Plans.{IsWholePlan, opening_plan, with_leaf, with_node, without_levels};
     ghost use Rattle.hv_block.specs.Lending.{LendsLuma, LendsCb, LendsCr};
 
     /// A plan of one intra unit of 64x64 with DC prediction (`IntraPredModeY` 1), and levels of 0.
@@ -113,6 +113,36 @@ impl CtbPlan {
         fill_units(&mut self.units, first, squares(size), unit);
     }
 
+    /// Copies the node of this `size` at `address` from another plan: the units of its squares, and
+    /// its levels. The node lies in the block. All else stays.
+    pub fn copy_node(&mut self, other: &CtbPlan, address: u8, size: u8)
+        requires size { size ≤ 3 }
+        requires fits { address + 4 ^ size ≤ 64 }
+        ensures value { self.new ≡ with_node self.old other.now size address }
+        ensures whole { IsWholePlan self.old }
+        ensures others { IsWholePlan other.now }
+    {
+        let (first, count) = (usize::from(address), squares(size));
+        copy_units(&mut self.units, &other.units, first, count);
+        copy_levels(&mut self.luma, &other.luma, 64 * first, 64 * count);
+        copy_levels(&mut self.cb, &other.cb, 16 * first, 16 * count);
+        copy_levels(&mut self.cr, &other.cr, 16 * first, 16 * count);
+    }
+
+    /// Makes all levels of the node of this `size` at `address` 0. The node lies in the block. All
+    /// else stays.
+    pub fn clear_levels(&mut self, address: u8, size: u8)
+        requires size { size ≤ 3 }
+        requires fits { address + 4 ^ size ≤ 64 }
+        ensures value { self.new ≡ without_levels self.old size address }
+        ensures whole { IsWholePlan self.old }
+    {
+        let (first, count) = (usize::from(address), squares(size));
+        zero_levels(&mut self.luma, 64 * first, 64 * count);
+        zero_levels(&mut self.cb, 16 * first, 16 * count);
+        zero_levels(&mut self.cr, 16 * first, 16 * count);
+    }
+
     /// The 4,096 levels of luma, lent for writing.
     pub fn luma_mut(&mut self) -> &mut [i16]
         ensures* written { sem 𝓛 (LendsLuma self.entry result) }
@@ -164,4 +194,33 @@ fn fill_units(units: &mut [Unit], first: usize, count: usize, unit: Unit)
     ensures depths { All HasDepth units.new }
 {
     units[first..first + count].fill(unit);
+}
+
+/// Copies `count` units from `first` on from another list. None lies deeper than 3.
+fn copy_units(units: &mut [Unit], other: &[Unit], first: usize, count: usize)
+    requires fits { first + count ≤ length units.old }
+    requires there { first + count ≤ length other.now }
+    requires depths { All HasDepth units.old }
+    requires others { All HasDepth other.now }
+    ensures value { units.new ≡ with_part units.old other.now first count }
+    ensures depths { All HasDepth units.new }
+{
+    units[first..first + count].copy_from_slice(&other[first..first + count]);
+}
+
+/// Copies `count` levels from `first` on from another list.
+fn copy_levels(levels: &mut [i16], other: &[i16], first: usize, count: usize)
+    requires fits { first + count ≤ length levels.old }
+    requires there { first + count ≤ length other.now }
+    ensures { levels.new ≡ with_part levels.old other.now first count }
+{
+    levels[first..first + count].copy_from_slice(&other[first..first + count]);
+}
+
+/// Puts 0 in `count` places from `first` on.
+fn zero_levels(levels: &mut [i16], first: usize, count: usize)
+    requires { first + count ≤ length levels.old }
+    ensures { levels.new ≡ with_zeros levels.old first count }
+{
+    levels[first..first + count].fill(0);
 }

@@ -1,7 +1,7 @@
 mod SliceBinLemmas
 mod BlankBinLemmas
 mod PuttingLemmas
-mod HeaderLemmas
+pub mod HeaderLemmas
 mod AroundLemmas
 mod PlannedLemmas
 mod OneBlockLemmas

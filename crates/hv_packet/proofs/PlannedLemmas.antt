@@ -17,6 +17,7 @@ use Rattle.hv_unit_model.specs.Plans.{Plan, IsPlan, tree_of}
 use Rattle.hv_unit_model.specs.PlanLaws.{squares_of_plans, squares_before}
 use Rattle.hv_unit_model.proofs.AroundLemmas.{plans_are_appended}
 use Rattle.hv_slice_model.specs.PlannedUnits.{planned_units}
+use Rattle.hv_syntax.proofs.PictureLemmas.{take_with}
 use Rattle.hv_packet.specs.BlockPlans.{AreWhole}
 use Rattle.hv_packet.proofs.SliceBinLemmas.{ends, last_of_count}
 
@@ -28,13 +29,6 @@ drop_from : {A : Type 0} (xs : List A) (i : ℕ) (x : A) → slice_get xs i ≡ 
 drop_from [] i x e = absurd (false≢true (ap is_some e))
 drop_from (y ∷ xs) zero x e = ap (λ z. z ∷ xs) (some_same y x e)
 drop_from (y ∷ xs) (suc i) x e = drop_from xs i x e
-
--- those before it, and it
-take_with : {A : Type 0} (xs : List A) (i : ℕ) (x : A) → slice_get xs i ≡ Some x →
-    take (suc i) xs ≡ take i xs ++ x ∷ []
-take_with [] i x e = absurd (false≢true (ap is_some e))
-take_with (y ∷ xs) zero x e = ap (λ z. z ∷ []) (some_same y x e)
-take_with (y ∷ xs) (suc i) x e = ap (λ list. y ∷ list) (take_with xs i x e)
 
 -- ---- one plan more is whole
 

@@ -1,6 +1,6 @@
 //! The data of a slice from the blocks of a picture.
 
-ghost use Rattle.std.specs.Prelude.{◌≡◌, ◌+◌, ◌-◌, ◌*◌, ◌<◌, ◌≤◌, ◌&&◌, true, nat_lt, length, slice_get, take, Some, IfOk};
+ghost use Rattle.std.specs.Prelude.{◌≡◌, ◌+◌, ◌*◌, length, slice_get, take, Some, IfOk};
 ghost use Rattle.hv_types.specs.Bins.{Puts};
 ghost use Rattle.hv_stream_model.specs.Bits.{bytes_of};
 ghost use Rattle.hv_entropy_model.specs.CodeWord.{word};
@@ -9,13 +9,13 @@ ghost use Rattle.hv_unit_model.specs.Validity.{AreValid};
 ghost use Rattle.hv_unit_model.specs.Bins.{bins, slice_bins};
 ghost use Rattle.hv_unit_model.specs.EarlierUnits.{in_picture};
 ghost use Rattle.hv_unit_model.specs.Plans.{IsPlan, tree_of};
-ghost use Rattle.hv_unit_model.specs.PlanLaws.{AreSeen, LieAround, squares_before};
-ghost use Rattle.hv_syntax.specs.Neighbours.{lists_of_plan, unit_edges, around_of};
+ghost use Rattle.hv_unit_model.specs.PlanLaws.{squares_before};
+ghost use Rattle.hv_syntax.specs.Neighbours.{lists_of_plan};
 ghost use Rattle.hv_slice_model.specs.PlannedUnits.{planned_units, NameTheirUnits};
 ghost use Rattle.hv_packet.specs.BlockPlans.{plan_of, plans_of, AreWhole};
 
 use crate::slice::Slice;
-use hv_block::{Block, Blocks, CtbPlan, Edges, Neighbours};
+use hv_block::{Block, Blocks, CtbPlan, neighbours_of};
 use hv_cabac::{BinSink, Encoder};
 use hv_plan::{Place, SaoParam};
 use hv_slice_model::slice_data_ends;
@@ -108,7 +108,7 @@ fn put_block<S: BinSink, B: Blocks>(
         height: slice.height,
         index,
     };
-    let near = neighbours(place, blocks);
+    let near = neighbours_of(place, blocks);
     is_whole(&block.plan);
     put_ctb(
         sink,
@@ -120,57 +120,6 @@ fn put_block<S: BinSink, B: Blocks>(
         sao,
         last,
     );
-}
-
-/// The edges of the four blocks around one.
-fn neighbours<B: Blocks>(place: Place, blocks: &B) -> Neighbours
-    requires width { 0 < place.width }
-    requires there { place.index < length (B.blocks blocks.now) }
-    ensures { LieAround place (take place.index (plans_of (B.blocks blocks.now)))
-        (around_of result) }
-{
-    let across = place.width.div_ceil(64);
-    let column = place.index % across;
-    let row = place.index / across;
-    let at_left = has_above_left(column, row);
-    let at_right = has_above_right(across, column, row);
-    Neighbours {
-        left: edges_before(blocks, place.index, column > 0, 1),
-        above_left: edges_before(blocks, place.index, at_left, across + 1),
-        above: edges_before(blocks, place.index, row > 0, across),
-        above_right: edges_before(blocks, place.index, at_right, across - 1),
-    }
-}
-
-/// Whether there is a block above the one at the left.
-fn has_above_left(column: u32, row: u32) -> bool
-    ensures { result ≡ nat_lt 0 column && nat_lt 0 row }
-{
-    column > 0 && row > 0
-}
-
-/// Whether there is a block above the one at the right, where so many cover the picture's width.
-fn has_above_right(across: u32, column: u32, row: u32) -> bool
-    requires { column < across }
-    ensures { result ≡ nat_lt 0 row && nat_lt (column + 1) across }
-{
-    row > 0 && column + 1 < across
-}
-
-/// The edges of the block so many before this one, where there is one.
-fn edges_before<B: Blocks>(blocks: &B, index: u32, is_there: bool, back: u32) -> Option<Edges>
-    requires inside { index < length (B.blocks blocks.now) }
-    requires some { is_there ≡ true → 1 ≤ back }
-    requires within { is_there ≡ true → back ≤ index }
-    ensures { AreSeen is_there (take index (plans_of (B.blocks blocks.now))) (index - back)
-        (unit_edges result) }
-{
-    if !is_there {
-        return None;
-    }
-    let block = blocks.block(index - back);
-    is_whole(&block.plan);
-    Some(block.edges())
 }
 
 /// A plan has the lists of a block.

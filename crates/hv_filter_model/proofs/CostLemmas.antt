@@ -1,6 +1,6 @@
--- The first of least cost: with one candidate more, and that what holds of each candidate holds of
--- it.
-use Rattle.std.proofs.Common.{◌≡◌, ℕ, zero, suc, ◌<◌, Bool, true, false, cond, nat_lt, List, [], ◌∷◌, ◌++◌, refl, arith}
+-- The first of least cost: with one candidate more, by two costs that are equal, and that what holds
+-- of each candidate holds of it.
+use Rattle.std.proofs.Common.{◌≡◌, ℕ, zero, suc, ◌<◌, Bool, true, false, cond, nat_lt, List, [], ◌∷◌, ◌++◌, refl, ap, ap₂, ◌∙◌, arith}
 use Rattle.hv_lemmas.specs.Lists.{tabulate}
 use Rattle.hv_filter_model.specs.Costs.{cheaper, first_least}
 
@@ -8,6 +8,13 @@ pub first_least_push : {A : Type 0} (f : A → ℕ) (x : A) (xs : List A) (y : A
     first_least f x (xs ++ y ∷ []) ≡ cheaper f (first_least f x xs) y
 first_least_push f x [] y = refl
 first_least_push f x (z ∷ xs) y = first_least_push f (cheaper f x z) xs y
+
+pub first_least_same : {A : Type 0} (f g : A → ℕ) (x : A) (xs : List A) → ((y : A) → f y ≡ g y) →
+    first_least f x xs ≡ first_least g x xs
+first_least_same f g x [] same = refl
+first_least_same f g x (y ∷ xs) same =
+    ap (λ z. first_least f z xs) (ap₂ (λ a b. cond (nat_lt a b) y x) (same y) (same x)) ∙
+    first_least_same f g (cheaper g x y) xs same
 
 abbrev pub Each : {A : Type 0} → (A → Type 0) → List A → Type 0
 Each P [] = Unit {0}

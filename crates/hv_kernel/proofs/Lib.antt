@@ -1,3 +1,4 @@
+pub mod CostLemmas
 pub mod FourLemmas
 pub mod LaneLemmas
 pub mod PairLemmas

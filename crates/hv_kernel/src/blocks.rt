@@ -77,6 +77,23 @@ pub fn sad_block_64(blocks: Pair) -> u32
     )
 }
 
+/// The sum of squared differences of two blocks of 4 columns. It takes no memory and always
+/// answers.
+#[inline(always)]
+pub fn ssd_block_4(blocks: Pair) -> u32
+    requires { blocks.first.columns ≡ 4 }
+    ensures { result ≡ ssd_of_blocks blocks.entry }
+{
+    let Pair { first, second } = blocks;
+    ssd_by_rows::<4>(
+        first.samples,
+        first.stride,
+        second.samples,
+        second.stride,
+        first.rows,
+    )
+}
+
 /// The sum of squared differences of two blocks of 8 columns. It takes no memory and always
 /// answers.
 #[inline(always)]

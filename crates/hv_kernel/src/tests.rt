@@ -101,6 +101,7 @@ fn blocks_of_rows(rt: HostRuntime) {
     assert_eq!(rt; sad_block_32(slow_and_fast(&slow, &fast, 32, 32)), 15872);
     assert_eq!(rt; sad_block_32(slow_and_fast(&slow, &fast, 32, 7)), 672);
     assert_eq!(rt; sad_block_64(slow_and_fast(&slow, &fast, 64, 64)), 129024);
+    assert_eq!(rt; ssd_block_4(slow_and_fast(&slow, &fast, 4, 4)), 56);
     assert_eq!(rt; ssd_block_8(slow_and_fast(&slow, &fast, 8, 8)), 1120);
     assert_eq!(rt; ssd_block_16(slow_and_fast(&slow, &fast, 16, 16)), 19840);
     assert_eq!(rt; ssd_block_32(slow_and_fast(&slow, &fast, 32, 32)), 333312);
@@ -159,4 +160,15 @@ fn quarter_rows(rt: HostRuntime) {
     let mut out = [0u8; 5];
     decimate(&[255u8; 80], 20, &mut out);
     assert_eq!(rt; out.as_slice(), [255u8; 5].as_slice());
+}
+
+/// At quantiser 30 a bin weighs 9 * 2^10 / 16, and at 31 11 * 2^10 / 16.
+#[test]
+fn costs_of_bins(rt: HostRuntime) {
+    assert_eq!(rt; bin_weight(0), 0);
+    assert_eq!(rt; bin_weight(30), 576);
+    assert_eq!(rt; bin_weight(31), 704);
+    assert_eq!(rt; bin_weight(51), 73728);
+    assert_eq!(rt; cost(30, 1000, 7), 20032);
+    assert_eq!(rt; cost(4, 3, 10), 58);
 }

@@ -2,13 +2,13 @@ mod AddLemmas
 pub mod AreaLemmas
 mod CandidateLemmas
 mod ChosenLemmas
+pub mod CostLemmas
 mod EdgeLemmas
 mod GrowthLemmas
 mod KeyLemmas
 mod NumberLemmas
 mod PictureLemmas
 pub mod PlaneLemmas
-pub mod PowerLemmas
 mod PriceLemmas
 mod RowLemmas
 mod SampleLemmas

@@ -1,6 +1,6 @@
 use Rattle.std.proofs.Common.{arith}
-use Rattle.hv_sao.proofs.PowerLemmas.{power_most}
-use Rattle.hv_sao.proofs.cost.power.Goals as goal
+use Rattle.hv_kernel.proofs.CostLemmas.{power_most}
+use Rattle.hv_kernel.proofs.costs.power.Goals as goal
 
 pub overflow_shl-result : goal.overflow_shl-result
 overflow_shl-result c = omega arith

@@ -78,11 +78,11 @@ decoded_node g size address before few =
     (best g size address before)
     (valid_best I g.surroundings.references g size address before few) _ _ before.decoded)
 
-corner_x : (site : Site) → x0 site 0 ≡ ctb_side * ctb_column site
+pub corner_x : (site : Site) → x0 site 0 ≡ ctb_side * ctb_column site
 unfolding column_of
 corner_x site = omega arith
 
-corner_y : (site : Site) → y0 site 0 ≡ ctb_side * ctb_row site
+pub corner_y : (site : Site) → y0 site 0 ≡ ctb_side * ctb_row site
 unfolding row_of
 corner_y site = omega arith
 

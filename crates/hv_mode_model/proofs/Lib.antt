@@ -1,4 +1,5 @@
 pub mod ChosenDecodedLemmas
+pub mod SeenChoiceLemmas
 pub mod ValidChoiceLemmas
 mod WorkedChoices
 mod WorkedCosts

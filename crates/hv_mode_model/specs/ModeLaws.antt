@@ -1,12 +1,15 @@
--- What is chosen may be coded, and decodes to what the choice was made by.
+-- What is chosen may be coded, decodes to what the choice was made by, and is chosen in a block as in
+-- the picture.
 use Rattle.std.specs.Prelude.{◌≡◌, ℕ, ◌≤◌, List, [], Some}
 use Rattle.hv_unit_model.specs.Trees.{greatest_size}
 use Rattle.hv_unit_model.specs.Sites.{Site, x0, y0, sites}
 use Rattle.hv_unit_model.specs.EarlierUnits.{Square}
+use Rattle.hv_unit_model.specs.Plans.{Plan, UnitsAround, in_block}
+use Rattle.hv_unit_model.specs.PlanLaws.{ArePlansBefore, LieAround, squares_before}
 use Rattle.hv_unit_model.specs.Validity.{IsValidNode}
 use Rattle.hv_recon_model.specs.Reconstruction.{Decoded, nothing_decoded, decoded_tree, decoded_trees}
 use Rattle.hv_recon_model.specs.ReconstructionLaws.{AreTrees, AreDecoded}
-use Rattle.hv_mode_model.specs.ModeDecision.{Given, Before, Task, decoded_behind, best, best_trees, best_decoded}
+use Rattle.hv_mode_model.specs.ModeDecision.{Given, Before, Task, decoded_behind, best, best_tree, best_trees, best_decoded}
 
 -- a node of any size at any address, in a slice of any kind, behind whatever was chosen before
 abbrev pub ChosenNodesMayBeCoded : Type 0
@@ -42,3 +45,19 @@ abbrev pub EveryChosenSampleIsDecoded : Type 0
 EveryChosenSampleIsDecoded =
     (task : Task) (width height : ℕ) →
     AreDecoded width height (best_decoded task (sites width height) [] nothing_decoded)
+
+-- What is chosen for a block by the units of the blocks around it is what is chosen for it in the
+-- picture.
+abbrev pub ChoicesInBlockAreThoseInPicture : Type 0
+ChoicesInBlockAreThoseInPicture =
+    (task : Task) (here : Site) (plans : List Plan) (around : UnitsAround) (d : Decoded) →
+    ArePlansBefore here plans → LieAround here plans around →
+    best
+    (record {
+      effort = task.effort;
+      qp = task.qp;
+      input = task.input;
+      surroundings = in_block task.slice_type task.references here around;
+    })
+    greatest_size 0 (record { decoded = d; earlier = [] }) ≡
+    best_tree task here (squares_before here plans) d

@@ -6,6 +6,6 @@
 mod mode_laws;
 
 pub use mode_laws::{
-    chosen_nodes_are_decoded, chosen_nodes_may_be_coded, chosen_trees_are_decoded,
-    chosen_trees_may_be_coded, every_chosen_sample_is_decoded,
+    choices_in_block_are_those_in_picture, chosen_nodes_are_decoded, chosen_nodes_may_be_coded,
+    chosen_trees_are_decoded, chosen_trees_may_be_coded, every_chosen_sample_is_decoded,
 };

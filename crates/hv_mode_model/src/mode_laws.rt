@@ -1,6 +1,7 @@
-//! What is chosen may be coded, and decodes to what the choice was made by.
+//! What is chosen may be coded, decodes to what the choice was made by, and is chosen in a block as
+//! in the picture.
 
-ghost use Rattle.hv_mode_model.specs.ModeLaws.{ChosenNodesMayBeCoded, ChosenTreesMayBeCoded, ChosenNodesAreDecoded, ChosenTreesAreDecoded, EveryChosenSampleIsDecoded};
+ghost use Rattle.hv_mode_model.specs.ModeLaws.{ChosenNodesMayBeCoded, ChosenTreesMayBeCoded, ChosenNodesAreDecoded, ChosenTreesAreDecoded, EveryChosenSampleIsDecoded, ChoicesInBlockAreThoseInPicture};
 
 /// The tree that is chosen for a node may be coded there (7.4.9): whatever is given, and whatever
 /// was chosen before.
@@ -28,4 +29,10 @@ pub fn chosen_trees_are_decoded()
 /// The choice for the blocks of a picture of any size reaches every sample of it, luma and chroma.
 pub fn every_chosen_sample_is_decoded()
     ensures { EveryChosenSampleIsDecoded }
+{}
+
+/// What is chosen for a block by the units of the blocks around it, as an encoder of one block sees
+/// them, is what is chosen for it in the picture.
+pub fn choices_in_block_are_those_in_picture()
+    ensures { ChoicesInBlockAreThoseInPicture }
 {}

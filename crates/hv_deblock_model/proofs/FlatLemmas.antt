@@ -22,7 +22,7 @@ use Rattle.hv_filter_model.specs.FlatPictures.{flat_picture}
 use Rattle.hv_deblock_model.specs.FlatPictures.{FlatPicturesAreKept, FlatPicturesAreShown}
 use Rattle.hv_deblock_model.proofs.LineLemmas.{line_of, line_same}
 
-plane_same : (width height : ℕ) (f g : ℕ → ℕ → ℕ) →
+pub plane_same : (width height : ℕ) (f g : ℕ → ℕ → ℕ) →
     ((x y : ℕ) → x < width → y < height → f x y ≡ g x y) →
     plane_of width height f ≡ plane_of width height g
 plane_same width height f g same =

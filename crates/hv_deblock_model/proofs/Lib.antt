@@ -1,5 +1,6 @@
 mod FlatLemmas
 pub mod LineLemmas
+pub mod InsideLemmas
 mod WorkedDeblocking
 mod WorkedEdges
 mod WorkedStrengths

@@ -4,4 +4,5 @@ pub mod EdgeFilters
 pub mod EdgeStrength
 pub mod FlatPictures
 pub mod InLoopFilters
+pub mod SquaresInside
 pub mod TreeSquares

@@ -5,7 +5,9 @@
 mod coding;
 mod flat_pictures;
 mod line;
+mod squares_inside;
 
 pub use coding::SquareCoding;
 pub use flat_pictures::flat_pictures_are_kept;
 pub use line::{Line, Side};
+pub use squares_inside::only_squares_inside_count;

@@ -11,13 +11,13 @@ use Rattle.hv_lemmas.proofs.ListLemmas.{length-tabulate}
 use Rattle.hv_block.specs.declared.block.Block.{Block}
 use Rattle.hv_block.specs.declared.edges.Edges.{Edges}
 use Rattle.hv_block.specs.BlockEdges.{edges_of}
+use Rattle.hv_block.specs.Around.{edges_at}
 use Rattle.hv_block.specs.Edges.{last_column, last_row}
 use Rattle.hv_block.specs.Samples.{Samples, AreWholeSamples}
 use Rattle.hv_block.proofs.EdgeLemmas.{column_sample, row_sample}
 use Rattle.hv_recon_model.specs.Reconstruction.{Component}
 use Rattle.hv_recon_model.specs.SeenSamples.{Spot, SampleEdges, SamplesAround, IsSeen, on_right, on_bottom, comes_before, sample_inside, sample_at_left, sample_above, sample_around, is_behind_edges, look_around, look_picture}
 use Rattle.hv_recon.specs.Leaves.{edges_in}
-use Rattle.hv_recon.specs.DecodedBlocks.{edges_at}
 use Rattle.hv_recon.proofs.ChoiceLemmas.{where_is, where_never, none_either, nested}
 
 -- ---- a component

@@ -29,7 +29,7 @@ pub record QuarterPlaces (place : Site) : Type 0 where
   pub last_right : x0 place 0 + 32 ≡ x0 place 48
   pub last_below : y0 place 0 + 32 ≡ y0 place 48
 
-quarter_places : (place : Site) → QuarterPlaces place
+pub quarter_places : (place : Site) → QuarterPlaces place
 unfolding column_of row_of
 quarter_places place = record {
   right = omega arith;
@@ -42,11 +42,11 @@ quarter_places place = record {
 
 -- ---- what is decoded
 
-abbrev unit_at : CtbPlan → ℕ → TransformUnit
+abbrev pub unit_at : CtbPlan → ℕ → TransformUnit
 unit_at plan address = transform_unit_at (lists_of_plan plan) 5 address
 
 module _ (plan : CtbPlan) (place : Site) (near : Neighbours) (mode qp : ℕ) where
-  quarter_behind : (address : ℕ) (old new : Samples) (x y : ℕ) (d : Decoded) → address < 64 →
+  pub quarter_behind : (address : ℕ) (old new : Samples) (x y : ℕ) (d : Decoded) → address < 64 →
       address % 16 ≡ 0 → UnitInPicture place 2 address → x ≡ x0 place address →
       y ≡ y0 place address → IsUnitPut plan place near 2 address mode qp old new →
       AreSeen place near old address d →

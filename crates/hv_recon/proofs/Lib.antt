@@ -1,8 +1,11 @@
+mod CodedBlockLemmas
+pub mod CodedLeafLemmas
+pub mod CodedUnitLemmas
 mod FilledLineLemmas
-mod GreatLeafLemmas
-mod LeafLemmas
+pub mod GreatLeafLemmas
+pub mod LeafLemmas
 mod LineLemmas
-mod PutRowLemmas
+pub mod PutRowLemmas
 mod PutUnitLemmas
 pub mod BlockLemmas
 pub mod ChoiceLemmas
@@ -11,4 +14,4 @@ mod NoLevelLemmas
 pub mod NodeLemmas
 pub mod PictureLemmas
 mod SumLemmas
-mod UnitLemmas
+pub mod UnitLemmas

@@ -82,7 +82,7 @@ row_0 zero f each = All-nil IsZero
 row_0 (suc n) f each =
     All-cons IsZero (f 0) _ (each 0) (row_0 n (λ i. f (suc i)) (λ i. each (suc i)))
 
-abbrev rows : ℕ → ℕ → (ℕ → ℕ → ℤ) → List ℤ
+abbrev pub rows : ℕ → ℕ → (ℕ → ℕ → ℤ) → List ℤ
 rows n w f = flat_map (λ row. row) (tabulate n (λ y. tabulate w (λ x. f x y)))
 
 rows_0 : (n w : ℕ) (f : ℕ → ℕ → ℤ) → ((x y : ℕ) → IsZero (f x y)) → All IsZero (rows n w f)
@@ -93,7 +93,7 @@ rows_0 (suc n) w f each =
     (row_0 w (λ x. f x 0) (λ x. each x 0))
     (rows_0 n w (λ x y. f x (suc y)) (λ x y. each x (suc y)))
 
-length-rows : (n w : ℕ) (f : ℕ → ℕ → ℤ) → length (rows n w f) ≡ n * w
+pub length-rows : (n w : ℕ) (f : ℕ → ℕ → ℤ) → length (rows n w f) ≡ n * w
 unfolding tabulate
 length-rows zero w f = omega arith
 length-rows (suc n) w f =

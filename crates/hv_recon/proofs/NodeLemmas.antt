@@ -23,7 +23,8 @@ use Rattle.hv_recon.specs.DecodedNodes.{node_of_plan, is_whole, IsNodeOfBlock, L
 
 -- ---- a leaf
 
-leaf_node : (plan : CtbPlan) (size address : ℕ) (place : Site) → is_outside place address ≡ false →
+pub leaf_node : (plan : CtbPlan) (size address : ℕ) (place : Site) →
+    is_outside place address ≡ false →
     is_whole size (slice_get plan.units address) ≡ true →
     node_of_plan place plan size address ≡ leaf_of_plan plan size address
 unfolding tree_at
@@ -42,7 +43,7 @@ leaf_as_node plan size address place qp near old new inside whole leaf d seen =
 
 -- ---- a node that is split
 
-split_node : (plan : CtbPlan) (size address : ℕ) (place : Site) →
+pub split_node : (plan : CtbPlan) (size address : ℕ) (place : Site) →
     is_outside place address ≡ false →
     is_leaf (suc size) (slice_get plan.units address) ≡ false →
     node_of_plan place plan (suc size) address ≡
@@ -53,7 +54,7 @@ split_node : (plan : CtbPlan) (size address : ℕ) (place : Site) →
 unfolding tree_at
 split_node plan size address place inside split = rw (inside, split) refl
 
-node_of_block : (size address : ℕ) → IsNodeOfBlock size address → IsNode size address
+pub node_of_block : (size address : ℕ) → IsNodeOfBlock size address → IsNode size address
 node_of_block size address node = record {
   few = node.size_at_most;
   inside = node.inside;
@@ -240,7 +241,7 @@ module _ (place : Site) (s : Spot) (fits : FitsIn place s) (size address : ℕ)
         seen.sample x y left right top low ∙ look_later around own x y;
   }
 
-outside_node : (plan : CtbPlan) (size address : ℕ) (place : Site) →
+pub outside_node : (plan : CtbPlan) (size address : ℕ) (place : Site) →
     is_outside place address ≡ true → node_of_plan place plan size address ≡ Outside
 unfolding tree_at
 outside_node plan zero address place outside = rw outside refl

@@ -12,6 +12,7 @@ use Rattle.hv_lemmas.specs.Lists.{tabulate}
 use Rattle.hv_lemmas.proofs.ListLemmas.{tabulate-same}
 use Rattle.hv_types.specs.Samples.{plane_of, plane_by_rows}
 use Rattle.hv_block.specs.declared.block.Block.{Block}
+use Rattle.hv_block.specs.Around.{neighbours_of}
 use Rattle.hv_block.specs.Samples.{Samples}
 use Rattle.hv_unit_model.specs.Trees.{Tree, greatest_size}
 use Rattle.hv_unit_model.specs.Sites.{Site, site, sites, sites_from, blocks_over, ctb_side, ctb_column, ctb_row}
@@ -21,24 +22,24 @@ use Rattle.hv_recon_model.proofs.BesideLemmas.{KeepBeside, KeptBeside, tree_besi
 use Rattle.hv_recon_model.proofs.PictureLemmas.{block_below}
 use Rattle.hv_recon_model.proofs.WholeLocalityLemmas.{some_of_product}
 use Rattle.hv_recon.specs.Leaves.{AreSeen, luma_around, cb_around, cr_around, lists_of_plan}
-use Rattle.hv_recon.specs.DecodedBlocks.{neighbours_of, trees_from, BlocksDecode, sample_of_blocks, SamplesAreThoseOfBlocks, PicturesAreTheirBlocks}
+use Rattle.hv_recon.specs.DecodedBlocks.{trees_from, BlocksDecode, sample_of_blocks, AreOfBlocks, picture_of_blocks, SamplesAreThoseOfBlocks, PicturesAreTheirBlocks}
 use Rattle.hv_recon.proofs.ChoiceLemmas.{where_is, where_never, none_either}
 use Rattle.hv_recon.proofs.BlockLemmas.{Part, IsPart, Grid, AreWhole, sample_before, decoded_before, there_is, known_sample, seen_next}
 use Rattle.hv_recon.proofs.NextBlockLemmas.{LiesInBlock, decoded_next}
 
 -- ---- the three components
 
-abbrev luma_part : Part
+abbrev pub luma_part : Part
 luma_part = record {
   own = λ s. s.luma;
   right = λ e. e.right_luma;
   bottom = λ e. e.bottom_luma;
 }
 
-abbrev cb_part : Part
+abbrev pub cb_part : Part
 cb_part = record { own = λ s. s.cb; right = λ e. e.right_cb; bottom = λ e. e.bottom_cb }
 
-abbrev cr_part : Part
+abbrev pub cr_part : Part
 cr_part = record { own = λ s. s.cr; right = λ e. e.right_cr; bottom = λ e. e.bottom_cr }
 
 is_luma : IsPart ctb_side luma_part
@@ -65,7 +66,7 @@ is_cr = record {
   bottom = λ b. refl;
 }
 
-abbrev luma_grid : ℕ → ℕ → Grid
+abbrev pub luma_grid : ℕ → ℕ → Grid
 luma_grid width height = record {
   side = ctb_side;
   across = blocks_over width;
@@ -73,7 +74,7 @@ luma_grid width height = record {
   height = height;
 }
 
-abbrev chroma_grid : ℕ → ℕ → Grid
+abbrev pub chroma_grid : ℕ → ℕ → Grid
 chroma_grid width height = record {
   side = ctb_side / 2;
   across = blocks_over width;
@@ -84,13 +85,13 @@ chroma_grid width height = record {
 -- ---- the first n blocks are decoded
 
 module _ (width height : ℕ) (blocks : List Block) where
-  record BlocksAreDecoded (n : ℕ) (d : Decoded) : Type 0 where
-    luma :
+  pub record BlocksAreDecoded (n : ℕ) (d : Decoded) : Type 0 where
+    pub luma :
         (x y : ℕ) →
         d.luma x y ≡ decoded_before luma_part (luma_grid width height) blocks n x y
-    cb :
+    pub cb :
         (x y : ℕ) → d.cb x y ≡ decoded_before cb_part (chroma_grid width height) blocks n x y
-    cr :
+    pub cr :
         (x y : ℕ) → d.cr x y ≡ decoded_before cr_part (chroma_grid width height) blocks n x y
 
   none_before : (p : Part) (g : Grid) (x y : ℕ) → decoded_before p g blocks 0 x y ≡ None
@@ -99,7 +100,7 @@ module _ (width height : ℕ) (blocks : List Block) where
       none_either (nat_lt x g.width && nat_lt y g.height) (sample_before p blocks 0 k _)
       (where_never (nat_lt k 0) _ None (λ t. absurd (omega (arith, ltb-true _ _ t))))
 
-  none_decoded : BlocksAreDecoded 0 nothing_decoded
+  pub none_decoded : BlocksAreDecoded 0 nothing_decoded
   none_decoded = record {
     luma = λ x y. sym (none_before luma_part (luma_grid width height) x y);
     cb = λ x y. sym (none_before cb_part (chroma_grid width height) x y);
@@ -108,10 +109,10 @@ module _ (width height : ℕ) (blocks : List Block) where
 
   module _ (whole : AreWhole blocks) (n : ℕ) (few : n ≤ length blocks)
       (columns : 0 < blocks_over width) where
-    abbrev here : Site
+    abbrev pub here : Site
     here = site width height n
 
-    seen_so : (d : Decoded) → BlocksAreDecoded n d → (own : Samples) →
+    pub seen_so : (d : Decoded) → BlocksAreDecoded n d → (own : Samples) →
         AreSeen here (neighbours_of blocks here) own 0 d
     seen_so d done own = record {
       luma = seen_next luma_part (luma_grid width height) is_luma blocks whole n few columns
@@ -122,7 +123,7 @@ module _ (width height : ℕ) (blocks : List Block) where
           (omega arith) d.cr done.cr own.cr;
     }
 
-    one_block_more : (block : Block) (d e : Decoded) → slice_get blocks n ≡ Some block →
+    pub one_block_more : (block : Block) (d e : Decoded) → slice_get blocks n ≡ Some block →
         BlocksAreDecoded n d → AreSeen here (neighbours_of blocks here) block.samples 64 e →
         KeepBeside (ctb_side * ctb_column here) (ctb_side * ctb_row here) 64 d e →
         BlocksAreDecoded (n + 1) e
@@ -156,12 +157,12 @@ module _ (width height : ℕ) (blocks : List Block) where
 
 -- ---- one block after the other
 
-kept_by : (left top n : ℕ) (d e : Decoded) (r : Option Decoded) → r ≡ Some e →
+pub kept_by : (left top n : ℕ) (d e : Decoded) (r : Option Decoded) → r ≡ Some e →
     KeptBeside left top n d r → KeepBeside left top n d e
 kept_by left top n d e r same kept = subst (λ o. KeptBeside left top n d o) same kept
 
 -- the blocks of a list from this number on
-abbrev BlocksFrom : List Block → ℕ → List Block → Type 0
+abbrev pub BlocksFrom : List Block → ℕ → List Block → Type 0
 BlocksFrom blocks first rest = (i : ℕ) → slice_get rest i ≡ slice_get blocks (first + i)
 
 blocks_decode : (width height qp : ℕ) (blocks : List Block) → BlocksDecode width height qp blocks →
@@ -235,42 +236,45 @@ own_sample p g is_part blocks whole x y wide high inside =
     (sym (get_or_from_slice_get (map own blocks) k (own b.0) []
     (slice_get-map own blocks k ∙ ap (option_map own) b.1)))
 
-from_start : (blocks : List Block) → BlocksFrom blocks 0 blocks
+pub from_start : (blocks : List Block) → BlocksFrom blocks 0 blocks
 from_start blocks i =
     let same : i ≡ 0 + i = omega arith in
     ap (slice_get blocks) same
+
+-- where all are decoded
+pub are_of_blocks : (width height : ℕ) (blocks : List Block) → AreWhole blocks →
+    length blocks ≡ blocks_over width * blocks_over height → (d : Decoded) →
+    BlocksAreDecoded width height blocks (length blocks) d → AreOfBlocks width height blocks d
+are_of_blocks width height blocks whole count d all = record {
+  luma = λ x y wide high. all.luma x y ∙
+      own_sample luma_part (luma_grid width height) is_luma blocks whole x y wide high
+      (omega (arith, block_below width height x y wide high, count));
+  cb = λ x y wide high. all.cb x y ∙
+      own_sample cb_part (chroma_grid width height) is_cb blocks whole x y wide high
+      (chroma_below x y wide high);
+  cr = λ x y wide high. all.cr x y ∙
+      own_sample cr_part (chroma_grid width height) is_cr blocks whole x y wide high
+      (chroma_below x y wide high);
+} where
+  chroma_below : (x y : ℕ) → x < width / 2 → y < height / 2 →
+      y / (ctb_side / 2) * blocks_over width + x / (ctb_side / 2) < length blocks
+  chroma_below x y wide high =
+      let column : 2 * x / 64 ≡ x / 32 = omega arith in
+      let row : 2 * y / 64 ≡ y / 32 = omega arith in
+      let below = block_below width height (2 * x) (2 * y) (omega (arith, wide))
+      (omega (arith, high)) in
+      let same : 2 * y / 64 * blocks_over width + 2 * x / 64 ≡
+      y / 32 * blocks_over width + x / 32 =
+      ap₂ (λ a b. a * blocks_over width + b) row column in
+      omega (arith, below, same, count)
 
 pub samples_of_blocks : SamplesAreThoseOfBlocks
 unfolding sites
 samples_of_blocks width height qp blocks all =
     let r = blocks_decode width height qp blocks all (blocks_over width * blocks_over height) 0
     blocks all.count (omega (arith, all.count)) (from_start blocks) nothing_decoded
-    (none_decoded width height blocks) in (
-      r.0,
-      r.1,
-      record {
-        luma = λ x y wide high. r.2.luma x y ∙
-            own_sample luma_part (luma_grid width height) is_luma blocks all.whole x y wide high
-            (omega (arith, block_below width height x y wide high, all.count));
-        cb = λ x y wide high. r.2.cb x y ∙
-            own_sample cb_part (chroma_grid width height) is_cb blocks all.whole x y wide high
-            (chroma_below x y wide high);
-        cr = λ x y wide high. r.2.cr x y ∙
-            own_sample cr_part (chroma_grid width height) is_cr blocks all.whole x y wide high
-            (chroma_below x y wide high);
-      },
-    ) where
-      chroma_below : (x y : ℕ) → x < width / 2 → y < height / 2 →
-          y / (ctb_side / 2) * blocks_over width + x / (ctb_side / 2) < length blocks
-      chroma_below x y wide high =
-          let column : 2 * x / 64 ≡ x / 32 = omega arith in
-          let row : 2 * y / 64 ≡ y / 32 = omega arith in
-          let below = block_below width height (2 * x) (2 * y) (omega (arith, wide))
-          (omega (arith, high)) in
-          let same : 2 * y / 64 * blocks_over width + 2 * x / 64 ≡
-          y / 32 * blocks_over width + x / 32 =
-          ap₂ (λ a b. a * blocks_over width + b) row column in
-          omega (arith, below, same, all.count)
+    (none_decoded width height blocks) in
+    (r.0, r.1, are_of_blocks width height blocks all.whole all.count r.0 r.2)
 
 -- ---- the picture
 
@@ -282,15 +286,22 @@ plane_same width height f g same =
     (tabulate-same height (λ y. tabulate width (λ x. f x y)) (λ y. tabulate width (λ x. g x y))
     (λ y high. tabulate-same width (λ x. f x y) (λ x. g x y) (λ x wide. same x y wide high)))
 
+-- where every sample is that of its block
+pub picture_is_of_blocks : (width height : ℕ) (blocks : List Block) (d : Decoded) →
+    AreOfBlocks width height blocks d →
+    picture_of width height d ≡ picture_of_blocks width height blocks
+picture_is_of_blocks width height blocks d are =
+    let luma = plane_same width height (λ x y. sample_of (d.luma x y)) _
+    (λ x y wide high. ap sample_of (are.luma x y wide high)) in
+    let cb = plane_same (width / 2) (height / 2) (λ x y. sample_of (d.cb x y)) _
+    (λ x y wide high. ap sample_of (are.cb x y wide high)) in
+    let cr = plane_same (width / 2) (height / 2) (λ x y. sample_of (d.cr x y)) _
+    (λ x y wide high. ap sample_of (are.cr x y wide high)) in
+    λ i. record { luma = luma i; cb = cb i; cr = cr i }
+
 pub picture_of_its_blocks : PicturesAreTheirBlocks
 unfolding unfiltered
 picture_of_its_blocks width height qp blocks all =
     let r = samples_of_blocks width height qp blocks all in
-    let luma = plane_same width height (λ x y. sample_of (r.0.luma x y)) _
-    (λ x y wide high. ap sample_of (r.2.luma x y wide high)) in
-    let cb = plane_same (width / 2) (height / 2) (λ x y. sample_of (r.0.cb x y)) _
-    (λ x y wide high. ap sample_of (r.2.cb x y wide high)) in
-    let cr = plane_same (width / 2) (height / 2) (λ x y. sample_of (r.0.cr x y)) _
-    (λ x y wide high. ap sample_of (r.2.cr x y wide high)) in
     ap (option_map (picture_of width height)) r.1 ∙
-    (λ i. Some (record { luma = luma i; cb = cb i; cr = cr i }))
+    ap Some (picture_is_of_blocks width height blocks r.0 r.2)

@@ -16,7 +16,7 @@ pub long_row : (l row : List ℕ) (from : ℕ) → from + length row ≤ length 
     length (with_row l from row) ≡ length l
 long_row l row from fits = grind (arith, common_steps, fits)
 
-before_row : (l row : List ℕ) (from i : ℕ) → from + length row ≤ length l → i < from →
+pub before_row : (l row : List ℕ) (from i : ℕ) → from + length row ≤ length l → i < from →
     get_or (with_row l from row) i 0 ≡ get_or l i 0
 before_row l row from i fits below = grind (arith, common_steps, fits, below)
 
@@ -24,7 +24,7 @@ behind_row : (l row : List ℕ) (from i : ℕ) → from + length row ≤ length 
     get_or (with_row l from row) i 0 ≡ get_or l i 0
 behind_row l row from i fits above = grind (arith, common_steps, fits, above)
 
-in_row : (l row : List ℕ) (from j : ℕ) → from + length row ≤ length l → j < length row →
+pub in_row : (l row : List ℕ) (from j : ℕ) → from + length row ≤ length l → j < length row →
     get_or (with_row l from row) (from + j) 0 ≡ get_or row j 0
 in_row l row from j fits below = grind (arith, common_steps, fits, below)
 

@@ -1,39 +1,17 @@
 -- The decoded picture of coding tree blocks of the code, each of which is decoded by the edges of
 -- the blocks around it alone: it is put together from their samples.
-use Rattle.std.specs.Prelude.{◌≡◌, ℕ, ◌+◌, ◌-◌, ◌*◌, ◌/◌, ◌%◌, ◌<◌, Bool, cond, ◌&&◌, List, [], ◌∷◌, length, map, slice_get, slice_index_or, Option, Some, None, option_map}
+use Rattle.std.specs.Prelude.{◌≡◌, ℕ, ◌+◌, ◌*◌, ◌/◌, ◌%◌, ◌<◌, List, [], ◌∷◌, length, map, slice_get, slice_index_or, Some}
 use Rattle.hv_types.specs.declared.picture.Picture.{Picture}
 use Rattle.hv_types.specs.Samples.{plane_of}
 use Rattle.hv_block.specs.declared.block.Block.{Block}
-use Rattle.hv_block.specs.declared.edges.Edges.{Edges}
-use Rattle.hv_block.specs.declared.edges.Neighbours.{Neighbours}
-use Rattle.hv_block.specs.BlockEdges.{edges_of}
+use Rattle.hv_block.specs.Around.{neighbours_of}
 use Rattle.hv_block.specs.Samples.{AreWholeSamples}
 use Rattle.hv_unit_model.specs.Trees.{Tree}
-use Rattle.hv_unit_model.specs.Sites.{Site, site, sites, blocks_over, ctb_side, has_left, has_above}
+use Rattle.hv_unit_model.specs.Sites.{Site, site, sites, blocks_over, ctb_side}
 use Rattle.hv_unit_model.specs.Plans.{tree_of}
-use Rattle.hv_unit_model.specs.PlanLaws.{has_above_right}
 use Rattle.hv_recon_model.specs.Reconstruction.{Decoded, nothing_decoded, decoded_trees, unfiltered}
 use Rattle.hv_recon.specs.Leaves.{lists_of_plan}
 use Rattle.hv_recon.specs.DecodedNodes.{DecodesBlock}
-
--- ---- the blocks around
-
--- the edges of the block of this number; none where there is none
-abbrev pub edges_at : List Block → Bool → ℕ → Option Edges
-edges_at blocks has_block number =
-    cond has_block (option_map edges_of (slice_get blocks number)) None
-
--- of the blocks of a picture, in raster order
-abbrev pub neighbours_of : List Block → Site → Neighbours
-neighbours_of blocks here = record {
-  left = edges_at blocks (has_left here) (here.index - 1);
-  above_left =
-      edges_at blocks (has_left here && has_above here)
-      (here.index - blocks_over here.width - 1);
-  above = edges_at blocks (has_above here) (here.index - blocks_over here.width);
-  above_right =
-      edges_at blocks (has_above_right here) (here.index - blocks_over here.width + 1);
-}
 
 -- ---- all blocks of a picture
 

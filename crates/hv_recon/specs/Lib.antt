@@ -1,3 +1,6 @@
+pub mod CodedLeaves
+pub mod CodedUnits
+pub mod Coding
 pub mod DecodedBlocks
 pub mod DecodedNodes
 pub mod Leaves

@@ -76,7 +76,7 @@ fn rebuild_quarters(
 }
 
 /// A transform unit of a coding unit of 64x64.
-fn quarter(address: u8, mode: u8, qp: u8) -> Unit
+pub fn quarter(address: u8, mode: u8, qp: u8) -> Unit
     requires address { address < 64 }
     requires node { address % 16 ≡ 0 }
     requires mode { mode ≤ 34 }

@@ -3,6 +3,9 @@
 #![tactic(auto)]
 
 mod around;
+mod coded_block;
+mod coded_leaf;
+mod coded_unit;
 mod leaf;
 mod node_laws;
 mod picture_laws;
@@ -15,10 +18,14 @@ mod transform_block;
 mod unit;
 mod view;
 
+pub use coded_block::read_block;
+pub use coded_leaf::code_leaf;
+pub use coded_unit::{luma_line, read_luma};
 pub use leaf::rebuild_leaf;
 pub use node_laws::{
     greatest_nodes_are_blocks, leaves_decode_as_nodes, nodes_outside_decode_nothing,
     split_nodes_decode_by_children,
 };
 pub use picture_laws::{pictures_are_their_blocks, samples_are_those_of_blocks};
+pub use put::put_row;
 pub use transform_block::rebuild_intra;

@@ -8,7 +8,7 @@ use crate::sizes::side_of;
 
 /// Copies a row to the places from `from` on.
 #[inline(always)]
-fn put_row(samples: &mut [u8], from: usize, row: &[u8])
+pub fn put_row(samples: &mut [u8], from: usize, row: &[u8])
     requires { from + length row.now ≤ length samples.old }
     ensures { samples.new ≡ with_row samples.old from row.now }
 {

@@ -84,6 +84,24 @@ fn add_levels(levels: &[i16], log2: u8, qp: u8, out: &mut [u8])
     }
 }
 
+/// Adds the residual of `COUNT` levels to as many samples of a block, where it is told whether one
+/// of them isn't 0; where all are 0 the samples are kept.
+pub fn add_coded<const COUNT: usize>(coded: bool, levels: &[i16], log2: u8, qp: u8, out: &mut [u8])
+    requires coded { coded ≡ is_coded levels.now }
+    requires least { 2 ≤ log2 }
+    requires most { log2 ≤ 5 }
+    requires quantiser { qp ≤ 51 }
+    requires side { COUNT ≡ 4 ^ log2 }
+    requires few { COUNT ≤ 1024 }
+    requires levels { length levels.now ≡ COUNT }
+    requires room { length out.old ≡ COUNT }
+    ensures { out.new ≡ sum_of out.old (residual log2 qp levels.now) }
+{
+    if coded {
+        add_residual::<COUNT>(levels, log2, qp, out);
+    }
+}
+
 /// Adds the residual of `COUNT` levels to as many samples of a block.
 fn add_residual<const COUNT: usize>(levels: &[i16], log2: u8, qp: u8, out: &mut [u8])
     requires least { 2 ≤ log2 }

@@ -54,7 +54,7 @@ fn cr_edges(edges: &Option<Edges>) -> Option<SampleEdges<'_>>
 }
 
 /// A block of luma.
-fn luma_view(place: Place, near: &Neighbours) -> View<'_>
+pub fn luma_view(place: Place, near: &Neighbours) -> View<'_>
     requires { 0 < place.width }
     ensures spot { spot_of result ≡ luma_spot place }
     ensures around { around_of result.around ≡ luma_around near.now }
@@ -76,7 +76,7 @@ fn luma_view(place: Place, near: &Neighbours) -> View<'_>
 }
 
 /// A block of Cb or Cr, with what lies around it.
-fn chroma_view(place: Place, around: SamplesAround<'_>) -> View<'_>
+pub fn chroma_view(place: Place, around: SamplesAround<'_>) -> View<'_>
     requires { 0 < place.width }
     ensures spot { spot_of result ≡ chroma_spot place }
     ensures around { result.around ≡ around.entry }
@@ -92,7 +92,7 @@ fn chroma_view(place: Place, around: SamplesAround<'_>) -> View<'_>
     }
 }
 
-fn cb_around(near: &Neighbours) -> SamplesAround<'_>
+pub fn cb_around(near: &Neighbours) -> SamplesAround<'_>
     ensures { around_of result ≡ cb_around near.now }
 {
     SamplesAround {
@@ -103,7 +103,7 @@ fn cb_around(near: &Neighbours) -> SamplesAround<'_>
     }
 }
 
-fn cr_around(near: &Neighbours) -> SamplesAround<'_>
+pub fn cr_around(near: &Neighbours) -> SamplesAround<'_>
     ensures { around_of result ≡ cr_around near.now }
 {
     SamplesAround {
@@ -214,7 +214,7 @@ fn rebuild_cr(view: &View<'_>, spot: Spot, levels: &[i16], out: &mut Samples)
 
 /// The column of a square by its address in z-scan order (6.5.2).
 #[tactic(auto, unfolding(hv_unit_model::specs::Sites::column_of))]
-fn column_of(address: u8) -> usize
+pub fn column_of(address: u8) -> usize
     requires { address < 64 }
     ensures value { result ≡ column_of address }
     ensures small { result < 8 }
@@ -224,7 +224,7 @@ fn column_of(address: u8) -> usize
 
 /// Its row.
 #[tactic(auto, unfolding(hv_unit_model::specs::Sites::row_of))]
-fn row_of(address: u8) -> usize
+pub fn row_of(address: u8) -> usize
     requires { address < 64 }
     ensures value { result ≡ row_of address }
     ensures small { result < 8 }

@@ -139,6 +139,22 @@ around_inside s around own address p q =
     (cond (below j) (sample_above s.side around (s.side + p))
     (sample_inside s.side own address (across j) (down j)))) None
 
+-- a sample of the coding tree block itself that is decoded
+pub own_sample : (s : Spot) (around : SamplesAround) (own : List ℕ) (address : ℕ)
+    (samples : Component) (p q : ℕ) → p < s.side → q < s.side → s.left + p < s.width →
+    s.top + q < s.height → comes_before s.side address p q ≡ true →
+    IsSeen s around own address samples →
+    samples (s.left + p) (s.top + q) ≡ by_rows s.side own p q
+own_sample s around own address samples p q across down wide high before seen =
+    let inside : nat_lt p s.side && nat_lt q s.side && comes_before s.side address p q ≡ true =
+    λ j. lt-ltb _ _ across j && lt-ltb _ _ down j && before j in
+    let sides : is_in_sides s p q ≡ true = λ j. lt-ltb _ _ wide j && lt-ltb _ _ high j in
+    sym (picture_inside s samples p q) ∙
+    seen.sample (s.side + p) (s.side + q) (omega arith) (omega (arith, across)) (omega arith)
+    (omega (arith, down)) ∙
+    around_inside s around own address p q ∙
+    (λ j. cond (sides j) (cond (inside j) (by_rows s.side own p q) None) None)
+
 in_bounds : (x y log2 p q : ℕ) → is_in (square_at x y log2) p q ≡ true →
     (x ≤ p) × (p < x + 2 ^ log2) × (y ≤ q) × (q < y + 2 ^ log2)
 in_bounds x y log2 p q inside =

@@ -4,24 +4,25 @@ use Rattle.std.specs.Prelude.{slice_get, Some}
 use Rattle.std.proofs.lemmas.Option.{get_or_from_slice_get}
 use Rattle.hv_types.specs.declared.picture.Picture.{Picture}
 use Rattle.hv_types.specs.Samples.{Plane, IsPlane, plane_of}
-use Rattle.hv_types.specs.Video.{IsPicture}
-use Rattle.hv_types.specs.Configuration.{padded_width, padded_height}
+use Rattle.hv_types.specs.Video.{IsPicture, IsPadded}
+use Rattle.hv_types.specs.Configuration.{padded_width, padded_height, columns, rows}
 use Rattle.hv_types.specs.GroupInput.{GroupInput}
+use Rattle.hv_lemmas.proofs.ListLemmas.{length-tabulate}
 use Rattle.hv_types.proofs.SampleLemmas.{IsPlane-plane_of}
 use Rattle.hv_plan.specs.declared.offsets.SaoParam.{SaoParam}
 use Rattle.hv_block.specs.declared.block.Block.{Block}
 use Rattle.hv_group_model.specs.Structure.{qp_at, coded_of}
 use Rattle.hv_filter_model.specs.FlatPictures.{flat_picture}
 use Rattle.hv_filter_model.specs.SampleAdaptiveOffset.{sao_picture}
-use Rattle.hv_filter_model.specs.OffsetDecision.{picture_offsets}
+use Rattle.hv_filter_model.specs.OffsetDecision.{block_offsets, picture_offsets}
 use Rattle.hv_deblock_model.specs.EdgeStrength.{Squares}
 use Rattle.hv_deblock_model.specs.Deblocking.{deblocked_picture}
 use Rattle.hv_filter.specs.JoinedPicture.{joined_picture, squares_of_blocks}
-use Rattle.hv_filter.specs.FilteredPicture.{input_picture, picture_qp, working_picture, picture_sao, shown_of_blocks}
+use Rattle.hv_filter.specs.FilteredPicture.{input_picture, picture_qp, unfiltered, picture_squares, working_picture, picture_sao, shown_of_blocks}
 
 -- ---- sides
 
-joined_has_sides : (width height : ℕ) (blocks : List Block) → 8 ≤ width → 8 ≤ height →
+pub joined_has_sides : (width height : ℕ) (blocks : List Block) → 2 ≤ width → 2 ≤ height →
     IsPicture width height (joined_picture width height blocks)
 joined_has_sides width height blocks wide high =
     let across : 0 < width / 2 = omega (arith, wide) in
@@ -47,6 +48,14 @@ deblocked_keeps_sides qp width height squares picture it = record {
   cr = plane_keeps_sides (width / 2) (height / 2) _ picture.cr it.cr;
 }
 
+sao_keeps_sides : (width height : ℕ) (picture : Picture) (choices : List SaoParam) →
+    IsPicture width height picture → IsPicture width height (sao_picture picture choices)
+sao_keeps_sides width height picture choices it = record {
+  luma = plane_keeps_sides width height _ picture.luma it.luma;
+  cb = plane_keeps_sides (width / 2) (height / 2) _ picture.cb it.cb;
+  cr = plane_keeps_sides (width / 2) (height / 2) _ picture.cr it.cr;
+}
+
 own_sides : (width height : ℕ) (picture : Picture) → IsPicture width height picture →
     IsPicture picture.luma.width picture.luma.height picture
 own_sides width height picture it =
@@ -64,7 +73,7 @@ joined_in_squares w h width height blocks joined is same_w same_h wide high whol
     let made : IsPicture width height joined =
     subst (IsPicture width height)
     (sym (is ∙ ap₂ (λ a b. joined_picture a b blocks) same_w same_h))
-    (joined_has_sides width height blocks wide high) in
+    (joined_has_sides width height blocks (omega (arith, wide)) (omega (arith, high))) in
     subst (λ n. IsPicture n (8 * (height / 8)) joined) across
     (subst (λ n. IsPicture width n joined) down made)
 
@@ -123,3 +132,36 @@ shown_is group number blocks deblocked shown sao is working choices =
 pub all_written : (old new : List SaoParam) (n : ℕ) → length new ≡ n →
     take n (new ++ drop (length new) old) ≡ new
 all_written old new n long = take_at new (drop (length new) old) n (omega (arith, long))
+
+-- ---- what is padded stays padded
+
+module _ (group : GroupInput) (number : ℕ) (blocks : List Block) (old : Picture)
+    (padded : IsPadded group.config old) where
+  working_padded : IsPadded group.config (working_picture group number blocks)
+  working_padded =
+      deblocked_keeps_sides (picture_qp group number) (padded_width group.config)
+      (padded_height group.config) (picture_squares group blocks) (unfiltered group blocks)
+      (joined_has_sides (padded_width group.config) (padded_height group.config) blocks
+      (omega (arith, padded.cb.wide, padded.cb.whole.wide))
+      (omega (arith, padded.cb.high, padded.cb.whole.high)))
+
+  pub working_stays : (new : Picture) → new ≡ working_picture group number blocks →
+      IsPadded group.config new
+  working_stays new is = subst (IsPadded group.config) (sym is) working_padded
+
+  pub shown_stays : (new : Picture) → new ≡ shown_of_blocks group number blocks →
+      IsPadded group.config new
+  shown_stays new is =
+      subst (IsPadded group.config) (sym is)
+      (sao_keeps_sides (padded_width group.config) (padded_height group.config)
+      (working_picture group number blocks) (picture_sao group number blocks) working_padded)
+
+-- there are as many offsets as blocks
+pub count_stays : (group : GroupInput) (number : ℕ) (blocks : List Block) (new : List SaoParam) →
+    new ≡ picture_sao group number blocks →
+    length new ≡ columns group.config * rows group.config
+count_stays group number blocks new is =
+    ap (λ list. length list) is ∙
+    length-tabulate (columns group.config * rows group.config)
+    (block_offsets group.config.effort (picture_qp group number)
+    (working_picture group number blocks) (input_picture group number))

@@ -1,4 +1,4 @@
 mod ChoiceLemmas
-mod FilterLemmas
+pub mod FilterLemmas
 mod JoinLemmas
 mod SquareLemmas

@@ -16,7 +16,8 @@ use hv_sao::apply_sao;
 /// The in-loop filters (8.7) of picture `picture` of a group, whose coding tree blocks are
 /// `blocks`, in raster order: `working` of the frame becomes the deblocked picture, `sao` the
 /// encoder's offsets of each block, all off at effort 0, and `shown` the picture with these
-/// offsets. What the frame had before doesn't matter. It takes no memory, and always answers.
+/// offsets. What the frame had before doesn't matter, and it has the same sides and as many blocks
+/// again. It takes no memory, and always answers.
 pub fn filter_picture<B: Blocks>(group: &Group, picture: u8, blocks: &B, frame: &mut Frame)
     requires picture { picture < length group.now.input.pictures }
     requires blocks { length (B.blocks blocks.now) ≡
@@ -31,6 +32,10 @@ pub fn filter_picture<B: Blocks>(group: &Group, picture: u8, blocks: &B, frame: 
         picture_sao group.now.input picture (B.blocks blocks.now) }
     ensures shown { frame.new.shown ≡
         shown_of_blocks group.now.input picture (B.blocks blocks.now) }
+    ensures shown_padded { IsPadded group.now.input.config frame.new.shown }
+    ensures working_padded { IsPadded group.now.input.config frame.new.working }
+    ensures count { length frame.new.sao.items ≡
+        columns group.now.input.config * rows group.now.input.config }
 {
     let config = group.input.config();
     let settings = config.settings();

@@ -3,7 +3,7 @@ use Rattle.hv_types.specs.declared.settings.Settings.{Settings}
 use Rattle.hv_types.specs.Configuration.{padded_width, padded_height}
 use Rattle.hv_filter.specs.JoinedPicture.{squares_of_blocks}
 use Rattle.hv_filter.specs.FilteredPicture.{picture_qp}
-use Rattle.hv_filter.proofs.FilterLemmas.{joined_in_squares, deblocked_own_sides, qp_is, working_is, sao_is, shown_is, all_written}
+use Rattle.hv_filter.proofs.FilterLemmas.{joined_in_squares, deblocked_own_sides, qp_is, working_is, sao_is, shown_is, all_written, working_stays, shown_stays, count_stays}
 use Rattle.hv_filter.proofs.picture.filter_picture.Goals as goal
 
 pub deblock-requires-clause-picture : goal.deblock-requires-clause-picture
@@ -90,3 +90,19 @@ returns-clause-shown g c =
     shown_is c.args.group.now.input c.args.picture (g.B.Blocks.blocks c.args.blocks.now)
     c.deblock.new.picture c.apply_sao.new.shown c.deref.result.now c.apply_sao.ensures
     (returns-clause-working g c) (c.deref.ensures.value ∙ returns-clause-sao g c)
+
+pub returns-clause-shown_padded : goal.returns-clause-shown_padded
+returns-clause-shown_padded g c =
+    shown_stays c.args.group.now.input c.args.picture (g.B.Blocks.blocks c.args.blocks.now)
+    c.args.frame.now.working c.requires.working c.apply_sao.new.shown (returns-clause-shown g c)
+
+pub returns-clause-working_padded : goal.returns-clause-working_padded
+returns-clause-working_padded g c =
+    working_stays c.args.group.now.input c.args.picture (g.B.Blocks.blocks c.args.blocks.now)
+    c.args.frame.now.working c.requires.working c.deblock.new.picture
+    (returns-clause-working g c)
+
+pub returns-clause-count : goal.returns-clause-count
+returns-clause-count g c =
+    count_stays c.args.group.now.input c.args.picture (g.B.Blocks.blocks c.args.blocks.now) _
+    (returns-clause-sao g c)

@@ -9,13 +9,13 @@ use Rattle.hv_sample_model.specs.IntraPrediction.{predicted, substituted}
 use Rattle.hv_unit_model.specs.Trees.{log2TrafoSize}
 use Rattle.hv_unit_model.specs.MostProbableModes.{planar}
 use Rattle.hv_recon_model.specs.Reconstruction.{neighbours}
-use Rattle.hv_filter_model.specs.Costs.{cheaper, first_least}
+use Rattle.hv_filter_model.specs.Costs.{first_least}
 use Rattle.hv_mode_model.specs.ModeDecision.{differences, block_samples, first_block, further_modes, score, luma_mode, mode_bins, mode_bin_weight}
 use Rattle.hv_kernel.specs.Differences.{sad_of}
 use Rattle.hv_lemmas.specs.Lists.{tabulate}
 use Rattle.hv_lemmas.proofs.ListLemmas.{tabulate_push}
 use Rattle.hv_lemmas.proofs.ComputedLemmas.{holds_below}
-use Rattle.hv_filter_model.proofs.CostLemmas.{first_least_push}
+use Rattle.hv_filter_model.proofs.CostLemmas.{first_least_push, first_least_same}
 use Rattle.hv_mode.specs.declared.luma_mode.Scored.{Scored}
 use Rattle.hv_mode.specs.LumaModes.{further_count, further_mode, LumaModesAreThoseOfBlocks}
 
@@ -35,13 +35,6 @@ sad_is (x ∷ xs) [] = refl
 sad_is (x ∷ xs) (y ∷ ys) =
     sum_from (0 + unsigned_abs (pos x -ℤ pos y)) (map unsigned_abs (differences xs ys)) ∙
     omega (arith, size_of_difference x y, sad_is xs ys)
-
-first_least_same : {A : Type 0} (f g : A → ℕ) (x : A) (xs : List A) → ((y : A) → f y ≡ g y) →
-    first_least f x xs ≡ first_least g x xs
-first_least_same f g x [] same = refl
-first_least_same f g x (y ∷ xs) same =
-    ap (λ z. first_least f z xs) (ap₂ (λ a b. cond (nat_lt a b) y x) (same y) (same x)) ∙
-    first_least_same f g (cheaper g x y) xs same
 
 pub modes_of_blocks : LumaModesAreThoseOfBlocks
 unfolding luma_mode score

@@ -1,0 +1,136 @@
+use Rattle.std.proofs.Common.{ℕ, ◌-◌, sym, ◌∙◌, arith}
+use Rattle.hv_block.specs.declared.block.Block.{Block}
+use Rattle.hv_mode.specs.declared.task.Task.{Task}
+use Rattle.hv_mode.specs.Nodes.{leaf_choice}
+use Rattle.hv_mode.specs.SplitNodes.{split_choice}
+use Rattle.hv_mode.proofs.BestLemmas.{begins_inside, fits_across, fits_down}
+use Rattle.hv_mode.proofs.DecidedLemmas.{outside_decides, forced_decides, blank_decides, least_decides, tried_decides}
+use Rattle.hv_mode.proofs.SplitLemmas.{split_decides, parts_of}
+use Rattle.hv_mode.proofs.TriedLemmas.{costs_choice, split_wins, unit_wins}
+use Rattle.hv_mode.proofs.FrameLemmas.{restored, decides_since}
+use Rattle.hv_mode.proofs.NodeFrameLemmas.{decides_kept}
+use Rattle.hv_mode.proofs.node.+deciding.Goals as goal
+
+-- ---- a node
+
+pub decide_node-returns-then-begins_outside : goal.decide_node-returns-then-begins_outside
+decide_node-returns-then-begins_outside t c =
+    outside_decides c.args.task.now c.args.size c.args.address c.args.out.now c.requires.node
+    (sym c.begins_outside.ensures ∙ c.if-begins_outside.true)
+
+pub decide_node-returns-then-must_split : goal.decide_node-returns-then-must_split
+decide_node-returns-then-must_split t c =
+    forced_decides c.args.task.now c.args.size c.args.address c.args.out.now c.decide_split.new.out
+    (sym c.begins_outside.ensures ∙ c.if-begins_outside.false)
+    (sym c.must_split.ensures ∙ c.if-must_split.true) c.decide_split.ensures
+
+pub decide_node-decide_inside-requires : goal.decide_node-decide_inside-requires
+decide_node-decide_inside-requires t c =
+    let task = c.args.task.now in
+    let inside = sym c.begins_outside.ensures ∙ c.if-begins_outside.false in
+    let whole = sym c.must_split.ensures ∙ c.if-must_split.false in (
+      omega arith,
+      (
+        c.requires.node,
+        (
+          fits_across task.place c.args.size c.args.address task.across inside whole,
+          (
+            fits_down task.place c.args.size c.args.address task.down inside whole,
+            c.requires.room,
+          ),
+        ),
+      ),
+    )
+
+-- ---- a node that lies in the picture
+
+pub decide_inside-returns-then-task-eq0 : goal.decide_inside-returns-then-task-eq0
+decide_inside-returns-then-task-eq0 t c =
+    blank_decides c.args.task.now c.args.size c.args.address c.args.out.now c.decide_blank.new.out
+    c.requires.right c.requires.bottom c.if-task-eq0.true c.decide_blank.ensures
+
+pub decide_inside-returns-then-size-eq0 : goal.decide_inside-returns-then-size-eq0
+decide_inside-returns-then-size-eq0 t c =
+    least_decides c.args.task.now c.args.size c.args.address c.args.out.now c.decide_leaf.new.out
+    c.requires.right c.requires.bottom (omega arith) c.if-size-eq0.true c.decide_leaf.ensures
+
+pub decide_inside-returns : goal.decide_inside-returns
+decide_inside-returns t c =
+    tried_decides c.args.task.now c.args.size c.args.address c.args.out.now c.decide_tried.new.out
+    c.requires.right c.requires.bottom (omega arith) (omega arith) c.decide_tried.ensures
+
+-- ---- a node that is split
+
+pub decide_split-decide_node-requires : goal.decide_split-decide_node-requires
+decide_split-decide_node-requires t c =
+    let parts = parts_of c.args.size c.squares-step.result c.args.address c.requires.parts
+    c.squares-step.ensures.value c.requires.node in (omega arith, (parts.first, omega arith))
+
+pub decide_split-decide_node-requires-2 : goal.decide_split-decide_node-requires-2
+decide_split-decide_node-requires-2 t c =
+    let parts = parts_of c.args.size c.squares-step.result c.args.address c.requires.parts
+    c.squares-step.ensures.value c.requires.node in (omega arith, (parts.second, omega arith))
+
+pub decide_split-decide_node-requires-3 : goal.decide_split-decide_node-requires-3
+decide_split-decide_node-requires-3 t c =
+    let parts = parts_of c.args.size c.squares-step.result c.args.address c.requires.parts
+    c.squares-step.ensures.value c.requires.node in (omega arith, (parts.third, omega arith))
+
+pub decide_split-decide_node-requires-4 : goal.decide_split-decide_node-requires-4
+decide_split-decide_node-requires-4 t c =
+    let parts = parts_of c.args.size c.squares-step.result c.args.address c.requires.parts
+    c.squares-step.ensures.value c.requires.node in (omega arith, (parts.fourth, omega arith))
+
+pub decide_split-returns : goal.decide_split-returns
+decide_split-returns t c =
+    split_decides c.args.task.now c.args.size c.squares-step.result c.args.address c.args.out.now
+    c.decide_node.new.out c.decide_node-2.new.out c.decide_node-3.new.out c.decide_node-4.new.out
+    c.requires.parts c.squares-step.ensures.value c.requires.node c.requires.begins
+    c.decide_node.ensures c.decide_node-2.ensures c.decide_node-3.ensures c.decide_node-4.ensures
+
+-- ---- a node that is tried
+
+pub decide_tried-decide_split-requires : goal.decide_tried-decide_split-requires
+decide_tried-decide_split-requires t c =
+    let inside = begins_inside c.args.task.now.place c.args.size c.args.address c.requires.right
+    c.requires.bottom in (omega arith, (c.requires.node, (inside, (omega arith, c.requires.parts))))
+
+pub decide_tried-returns-then-split_cost-unit_cost :
+    goal.decide_tried-returns-then-split_cost-unit_cost
+decide_tried-returns-then-split_cost-unit_cost t c =
+    let task : Task = c.args.task.now in
+    let size : ℕ = c.args.size in
+    let address : ℕ = c.args.address in
+    let old : Block = c.args.out.now in
+    let of_unit = costs_choice task size address (leaf_choice task size address) old
+    c.decide_leaf.new.out c.cost_node-unit_cost.result c.decide_leaf.ensures
+    c.cost_node-unit_cost.ensures in
+    let split = decides_since task size address (split_choice task size address) old
+    c.decide_leaf.new.out c.decide_split.new.out c.decide_leaf.ensures.kept
+    c.decide_split.ensures in
+    let of_split = costs_choice task size address (split_choice task size address) old
+    c.decide_split.new.out c.cost_node-split_cost.result split c.cost_node-split_cost.ensures in
+    split_wins task size address old c.decide_split.new.out c.cost_node-unit_cost.result
+    c.cost_node-split_cost.result of_unit of_split c.if-split_cost-unit_cost.true split
+
+pub decide_tried-returns : goal.decide_tried-returns
+decide_tried-returns t c =
+    let task : Task = c.args.task.now in
+    let size : ℕ = c.args.size in
+    let address : ℕ = c.args.address in
+    let old : Block = c.args.out.now in
+    let of_unit = costs_choice task size address (leaf_choice task size address) old
+    c.decide_leaf.new.out c.cost_node-unit_cost.result c.decide_leaf.ensures
+    c.cost_node-unit_cost.ensures in
+    let split = decides_since task size address (split_choice task size address) old
+    c.decide_leaf.new.out c.decide_split.new.out c.decide_leaf.ensures.kept
+    c.decide_split.ensures in
+    let of_split = costs_choice task size address (split_choice task size address) old
+    c.decide_split.new.out c.cost_node-split_cost.result split c.cost_node-split_cost.ensures in
+    let back = restored size address c.decide_leaf.new.out _ c.copy_node.new.to
+    c.decide_split.new.out c.copy_node-2.new.to c.copy_node.ensures c.decide_split.ensures.kept
+    c.copy_node-2.ensures in
+    unit_wins task size address old c.copy_node-2.new.to c.cost_node-unit_cost.result
+    c.cost_node-split_cost.result of_unit of_split (omega arith)
+    (decides_kept task size address (leaf_choice task size address) old c.decide_leaf.new.out
+    c.copy_node-2.new.to c.requires.node c.decide_leaf.ensures back)

@@ -1,0 +1,28 @@
+//! What is given for the blocks of a picture.
+
+ghost use Rattle.std.specs.Prelude.{◌≡◌, ◌%◌, ◌<◌, ◌≤◌};
+ghost use Rattle.hv_types.specs.Video.{IsPicture};
+
+use hv_types::{Picture, SliceKind};
+
+/// What is given for all coding tree blocks of a picture: how much is tried (`effort`, 0 to 2), the
+/// quantiser of the slice (`SliceQpY`, 0 to 51), the padded picture that is encoded and its sides
+/// in luma samples, the kind of the slice and its number of references.
+#[derive(Clone, Copy)]
+pub struct PictureTask<'a> {
+    pub effort: u8,
+    pub qp: u8,
+    pub input: &'a Picture,
+    pub kind: SliceKind,
+    pub references: u8,
+    pub width: u32,
+    pub height: u32,
+    pub ghost known: { effort ≤ 2 },
+    pub ghost quantiser: { qp ≤ 51 },
+    pub ghost some: { 0 < width },
+    pub ghost width_most: { width ≤ 4096 },
+    pub ghost height_most: { height ≤ 2176 },
+    pub ghost across: { width % 8 ≡ 0 },
+    pub ghost down: { height % 8 ≡ 0 },
+    pub ghost whole: { IsPicture width height input.now },
+}

@@ -5,7 +5,7 @@ use Rattle.std.specs.List.{list_all}
 use Rattle.hv_types.specs.declared.bins.SliceKind.TheVariants.{I}
 use Rattle.hv_types.specs.declared.settings.Settings.{Settings}
 use Rattle.hv_types.specs.Configuration.{IsValid, padded_width, padded_height}
-use Rattle.hv_stream_model.specs.Headers.{size_of}
+use Rattle.hv_stream_model.specs.Headers.{SliceHeader}
 use Rattle.hv_residual_model.specs.ResidualBins.{any_significant}
 use Rattle.hv_unit_model.specs.Trees.{Tree, Leaf, Split, Outside, Intra, no_levels, no_unit, no_units, log2TrafoSize, transform_units, any_level, greatest_size, CodingTreeUnit}
 use Rattle.hv_unit_model.specs.Sites.{Site, sites, squares, is_outside, crosses}
@@ -19,9 +19,8 @@ use Rattle.hv_slice_model.specs.Slices.{picture_sites}
 use Rattle.hv_slice_model.proofs.BlankUnitLemmas.{blank_units_valid}
 use Rattle.hv_deblock_model.specs.TreeSquares.{squares_of_trees}
 use Rattle.hv_deblock_model.specs.FlatPictures.{FlatPicturesAreShown}
-use Rattle.hv_model.specs.Reconstruction.{no_vectors, filtered_picture}
+use Rattle.hv_model.specs.Reconstruction.{DecodedPicture, no_vectors, filtered_picture, reconstructed}
 use Rattle.hv_model.specs.Encoding.{coded_units, recon_picture}
-use Rattle.hv_model.proofs.KeepingLemmas.{AreDecodedTo}
 
 zeros_insignificant : (n : ℕ) → any_significant (replicate n (pos 0)) ≡ false
 zeros_insignificant zero = refl
@@ -90,7 +89,10 @@ choices_off (site ∷ rest) (suc k) d h = choices_off rest k d (omega (arith, h)
 -- with every header, of whatever slice type
 pub coded_units_grey : BlankPicturesAreGrey → FlatPicturesAreShown →
     (cfg : Settings) → IsValid cfg →
-    AreDecodedTo (size_of cfg) (coded_units (picture_sites cfg)) (recon_picture cfg)
+    (header : SliceHeader) (references : List DecodedPicture) →
+    reconstructed (padded_width cfg) (padded_height cfg) header references
+    (coded_units (picture_sites cfg)) ≡
+    Some (recon_picture cfg)
 coded_units_grey grey flat cfg valid header references =
     let w : ℕ = padded_width cfg in
     let h : ℕ = padded_height cfg in

@@ -173,30 +173,36 @@ encoding_ignores cfg (picture ∷ pictures) (other ∷ others) e =
 
 -- ---- as many reconstructed pictures
 
-within_many : (cfg : Settings) (most size : ℕ) (pictures : List Picture) →
-    length pictures ≤ most →
-    length (flat_map (λ group. (encode_group cfg group).shown) (groups_within most size pictures)) ≡
-    length pictures
-within_many cfg most size [] few = refl
-within_many cfg zero size (picture ∷ pictures) few = absurd (omega arith)
-within_many cfg (suc most) size (picture ∷ pictures) few =
-    let shown : List Picture → List Picture = λ group. (encode_group cfg group).shown in
-    let group : List Picture = picture ∷ take (size - 1) pictures in
-    let behind : List Picture = drop (size - 1) pictures in
-    let others : List Picture = flat_map shown (groups_within most size behind) in
-    let many : length others ≡ length behind =
-    within_many cfg most size behind (omega (arith, few, length-drop (size - 1) pictures)) in
-    let here : length (shown group) ≡ length group =
-    length-map group (λ picture. crop (recon_picture cfg) cfg.width cfg.height) in
-    omega (
-      arith,
-      length-append (shown group) others,
-      many,
-      here,
-      length-take (size - 1) pictures,
-      length-drop (size - 1) pictures,
-    )
+module _
+    (shown : List Picture → List Picture)
+    (each : (group : List Picture) → length (shown group) ≡ length group) where
+  within_many : (most size : ℕ) (pictures : List Picture) → length pictures ≤ most →
+      length (flat_map shown (groups_within most size pictures)) ≡ length pictures
+  within_many most size [] few = refl
+  within_many zero size (picture ∷ pictures) few = absurd (omega arith)
+  within_many (suc most) size (picture ∷ pictures) few =
+      let group : List Picture = picture ∷ take (size - 1) pictures in
+      let behind : List Picture = drop (size - 1) pictures in
+      let others : List Picture = flat_map shown (groups_within most size behind) in
+      let many : length others ≡ length behind =
+      within_many most size behind (omega (arith, few, length-drop (size - 1) pictures)) in
+      omega (
+        arith,
+        length-append (shown group) others,
+        many,
+        each group,
+        length-take (size - 1) pictures,
+        length-drop (size - 1) pictures,
+      )
+
+  -- where there are as many for each group
+  pub groups_reconstructed : (cfg : Settings) (pictures : List Picture) →
+      length (flat_map shown (groups_of cfg pictures)) ≡ length pictures
+  groups_reconstructed cfg pictures =
+      within_many (length pictures) cfg.group pictures (omega arith)
 
 pub each_reconstructed : EachIsReconstructed
 each_reconstructed cfg pictures =
-    within_many cfg (length pictures) cfg.group pictures (omega arith)
+    groups_reconstructed (λ group. (encode_group cfg group).shown)
+    (λ group. length-map group (λ picture. crop (recon_picture cfg) cfg.width cfg.height))
+    cfg pictures

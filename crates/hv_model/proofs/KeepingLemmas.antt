@@ -1,5 +1,5 @@
--- The pictures of a group are decoded: what each set names is kept (8.3.2), where all pictures have
--- the same units, which are decoded to the same picture with every header.
+-- The pictures of a group are decoded: what each set names is kept (8.3.2), where the units of each
+-- picture are decoded to its picture.
 use Rattle.std.proofs.Common.{◌≡◌, ℕ, zero, suc, ◌+◌, ◌-◌, ◌<◌, ◌≤◌, Bool, true, false, List, [], ◌∷◌, ◌++◌, length, map, take, drop, refl, sym, ap, ap₂, ◌∙◌, subst, arith, inl, inr, append_assoc, eq-eqb, eqb-true}
 use Rattle.std.specs.Prelude.{◌⊎◌, ◌&&◌, ◌||◌, nat_eq, nat_lt, not, cond, filter, Option, Some, option_and_then, option_map}
 use Rattle.std.specs.List.{list_all, list_any}
@@ -148,19 +148,10 @@ module _ (cfg : Settings) (count : ℕ) (good : IsGood count (coding count cfg.l
 
 -- ---- decoding
 
--- with every header and list 0, these units are decoded to this picture
-abbrev pub AreDecodedTo : Size → List CodingTreeUnit → Picture → Type 0
-AreDecodedTo size units picture =
-    (header : SliceHeader) (references : List DecodedPicture) →
-    reconstructed size.pic_width_in_luma_samples size.pic_height_in_luma_samples header references
-    units ≡ Some picture
-
-module _
-    (size : Size) (units : List CodingTreeUnit) (p : Picture)
-    (same : AreDecodedTo size units p) where
+module _ (shown_as : ℕ → Picture) where
   -- the decoded picture of a count
   abbrev pub shown_at : ℕ → DecodedPicture
-  shown_at count = record { PicOrderCntVal = count; picture = p }
+  shown_at count = record { PicOrderCntVal = count; picture = shown_as count }
 
   first_found : (n : ℕ) (kept : List ℕ) (others : List ℕ) → Among n kept →
       found_then (filter (has_count n) (map shown_at kept)) (Some (map shown_at others)) ≡
@@ -191,133 +182,148 @@ module _
       (all_named kept counts (λ m there. h m (among_behind m n counts there))) ∙
       first_found n kept counts (h n (among_first n counts))
 
-  abbrev pub coded_with : SliceHeader → CodedPicture
-  coded_with header = record { header = header; units = units }
+-- the units of each picture of a group of so many are decoded to its picture, where those of list 0
+-- are decoded to theirs
+abbrev pub AreDecodedTo : Size → (ℕ → Picture) → Settings → ℕ → (ℕ → List CodingTreeUnit) → Type 0
+AreDecodedTo size shown_as cfg count units =
+    (k : ℕ) →
+    reconstructed size.pic_width_in_luma_samples size.pic_height_in_luma_samples
+    (header_in cfg count k) (map (shown_at shown_as) (list_0 (header_in cfg count k))) (units k) ≡
+    Some (shown_as k)
 
-  decoded_one : (header : SliceHeader) →
-      decoded_picture size (map shown_at (set_counts header)) (coded_with header) ≡
-      Some (shown_at (count_of header))
-  decoded_one header =
-      decoded_with (named (map shown_at (set_counts header)) (list_0 header))
-      (map shown_at (list_0 header))
-      (all_named (set_counts header) (list_0 header) (list_named header))
+module _
+    (size : Size) (shown_as : ℕ → Picture) (cfg : Settings) (count : ℕ)
+    (good : IsGood count (coding count cfg.levels)) (units : ℕ → List CodingTreeUnit)
+    (same : AreDecodedTo size shown_as cfg count units) where
+  -- the coded picture of a count, and of one in coding order
+  abbrev coded_with : ℕ → CodedPicture
+  coded_with k = record { header = header_in cfg count k; units = units k }
+
+  abbrev pub coded_at : Coded → CodedPicture
+  coded_at c = coded_with c.picture
+
+  pub count_in : (k : ℕ) → count_of (header_in cfg count k) ≡ k
+  count_in zero = refl
+  count_in (suc k) = refl
+
+  decoded_one : (k : ℕ) →
+      decoded_picture size (map (shown_at shown_as) (set_counts (header_in cfg count k)))
+      (coded_with k) ≡
+      Some (shown_at shown_as k)
+  decoded_one k =
+      let header : SliceHeader = header_in cfg count k in
+      decoded_with k (count_of header)
+      (named (map (shown_at shown_as) (set_counts header)) (list_0 header))
+      (all_named shown_as (set_counts header) (list_0 header) (list_named header)) (count_in k)
     where
-      decoded_with : (found : Option (List DecodedPicture)) (references : List DecodedPicture) →
-          found ≡ Some references →
-          option_map (λ picture. record { PicOrderCntVal = count_of header; picture = picture })
+      decoded_with : (k n : ℕ) (found : Option (List DecodedPicture)) →
+          found ≡ Some (map (shown_at shown_as) (list_0 (header_in cfg count k))) → n ≡ k →
+          option_map (λ picture. record { PicOrderCntVal = n; picture = picture })
           (option_and_then
           (λ references. reconstructed
-          size.pic_width_in_luma_samples size.pic_height_in_luma_samples header references units)
+          size.pic_width_in_luma_samples size.pic_height_in_luma_samples (header_in cfg count k)
+          references (units k))
           found) ≡
-          Some (shown_at (count_of header))
-      decoded_with found references e = rw (e, same header references) refl
+          Some (shown_at shown_as k)
+      decoded_with k n found e f =
+          rw (e, same k)
+          (ap (λ m. Some (record { PicOrderCntVal = m; picture = shown_as k })) f)
 
   -- one picture, and then the others
-  decoded_then : (header : SliceHeader) (kept : List ℕ) (rest : List CodedPicture)
-      (others : List DecodedPicture) → AllAmong (set_counts header) kept →
-      decoded_from size (shown_at (count_of header) ∷ map shown_at (set_counts header)) rest ≡
-      Some others →
-      decoded_from size (map shown_at kept) (coded_with header ∷ rest) ≡
-      Some (shown_at (count_of header) ∷ others)
-  decoded_then header kept rest others there behind =
-      rw (all_named kept (set_counts header) there, decoded_one header, behind) refl
+  decoded_then : (k : ℕ) (kept : List ℕ) (rest : List CodedPicture)
+      (others : List DecodedPicture) → AllAmong (set_counts (header_in cfg count k)) kept →
+      decoded_from size
+      (map (shown_at shown_as) (k ∷ set_counts (header_in cfg count k))) rest ≡ Some others →
+      decoded_from size (map (shown_at shown_as) kept) (coded_with k ∷ rest) ≡
+      Some (shown_at shown_as k ∷ others)
+  decoded_then k kept rest others there behind =
+      rw (
+        all_named shown_as kept (set_counts (header_in cfg count k)) there,
+        decoded_one k,
+        behind,
+      ) refl
 
-  module _ (cfg : Settings) (count : ℕ) (good : IsGood count (coding count cfg.levels)) where
-    -- the coded picture of one in coding order
-    abbrev pub coded_at : Coded → CodedPicture
-    coded_at c = coded_with (header_in cfg count c.picture)
+  -- what later pictures need of those coded before is kept
+  Keeps : List Coded → List Coded → List ℕ → Type 0
+  Keeps done rest kept =
+      (other : ℕ) → is_among done other ≡ true → is_referred rest other ≡ true →
+      Among other kept
 
-    -- what later pictures need of those coded before is kept
-    Keeps : List Coded → List Coded → List ℕ → Type 0
-    Keeps done rest kept =
-        (other : ℕ) → is_among done other ≡ true → is_referred rest other ≡ true →
-        Among other kept
+  among_one : (done : List Coded) (c : Coded) (other : ℕ) →
+      is_among (done ++ c ∷ []) other ≡ true →
+      (is_among done other ≡ true) ⊎ (other ≡ c.picture)
+  among_one done c other h =
+      elim
+      (either (is_among done other) (is_among (c ∷ []) other)
+      (sym (list_any-append (λ d. nat_eq d.picture other) done (c ∷ [])) ∙ h))
+      as (λ _. (is_among done other ≡ true) ⊎ (other ≡ c.picture)) [
+        | inl before ↦ inl before
+        | inr last ↦ elim (either (nat_eq c.picture other) false last)
+            as (λ _. (is_among done other ≡ true) ⊎ (other ≡ c.picture)) [
+              | inl here ↦ inr (sym (eqb-true c.picture other here))
+              | inr none ↦ absurd (false≢true none)
+            ]
+      ]
 
-    pub count_in : (k : ℕ) → count_of (header_in cfg count k) ≡ k
-    count_in zero = refl
-    count_in (suc k) = refl
+  keeps_next : (done : List Coded) (c : Coded) (rest : List Coded) (set : List ℕ) →
+      SetIsKept done c.picture (c ∷ rest) set →
+      Keeps (done ++ c ∷ []) rest (c.picture ∷ set)
+  unfolding Keeps
+  keeps_next done c rest set h other among referred =
+      elim (cases_Bool (nat_eq other c.picture)) as (λ _. Among other (c.picture ∷ set)) [
+        | inl here ↦ or_left (nat_eq other c.picture) (list_any (nat_eq other) set) here
+        | inr apart ↦ elim (among_one done c other among)
+            as (λ _. Among other (c.picture ∷ set)) [
+              | inl before ↦ among_behind other c.picture set
+                  (h.whole other apart before
+                  (or_right (list_any (nat_eq other) c.references) (is_referred rest other)
+                  referred))
+              | inr same ↦ absurd (false≢true (sym apart ∙ eq-eqb other c.picture same))
+            ]
+      ]
 
-    among_one : (done : List Coded) (c : Coded) (other : ℕ) →
-        is_among (done ++ c ∷ []) other ≡ true →
-        (is_among done other ≡ true) ⊎ (other ≡ c.picture)
-    among_one done c other h =
-        elim
-        (either (is_among done other) (is_among (c ∷ []) other)
-        (sym (list_any-append (λ d. nat_eq d.picture other) done (c ∷ [])) ∙ h))
-        as (λ _. (is_among done other ≡ true) ⊎ (other ≡ c.picture)) [
-          | inl before ↦ inl before
-          | inr last ↦ elim (either (nat_eq c.picture other) false last)
-              as (λ _. (is_among done other ≡ true) ⊎ (other ≡ c.picture)) [
-                | inl here ↦ inr (sym (eqb-true c.picture other here))
-                | inr none ↦ absurd (false≢true none)
-              ]
-        ]
+  one_decoded : (done : List Coded) (c : Coded) (rest : List Coded) (kept : List ℕ)
+      (others : List DecodedPicture) →
+      SetIsKept done c.picture (c ∷ rest) (set_counts (header_in cfg count c.picture)) →
+      Keeps done (c ∷ rest) kept →
+      decoded_from size
+      (map (shown_at shown_as) (c.picture ∷ set_counts (header_in cfg count c.picture)))
+      (map coded_at rest) ≡ Some others →
+      decoded_from size (map (shown_at shown_as) kept) (map coded_at (c ∷ rest)) ≡
+      Some (shown_at shown_as c.picture ∷ others)
+  unfolding Keeps
+  one_decoded done c rest kept others h keeps behind =
+      decoded_then c.picture kept (map coded_at rest) others
+      (λ n there. let both = h.sound n there in keeps n both.0 both.1) behind
 
-    keeps_next : (done : List Coded) (c : Coded) (rest : List Coded) (set : List ℕ) →
-        SetIsKept done c.picture (c ∷ rest) set →
-        Keeps (done ++ c ∷ []) rest (c.picture ∷ set)
-    unfolding Keeps
-    keeps_next done c rest set h other among referred =
-        elim (cases_Bool (nat_eq other c.picture)) as (λ _. Among other (c.picture ∷ set)) [
-          | inl here ↦ or_left (nat_eq other c.picture) (list_any (nat_eq other) set) here
-          | inr apart ↦ elim (among_one done c other among)
-              as (λ _. Among other (c.picture ∷ set)) [
-                | inl before ↦ among_behind other c.picture set
-                    (h.whole other apart before
-                    (or_right (list_any (nat_eq other) c.references) (is_referred rest other)
-                    referred))
-                | inr same ↦ absurd (false≢true (sym apart ∙ eq-eqb other c.picture same))
-              ]
-        ]
+  others_decoded : (done rest : List Coded) (kept : List ℕ) →
+      coding count cfg.levels ≡ done ++ rest →
+      list_all (λ c. nat_lt 0 c.picture) rest ≡ true → Keeps done rest kept →
+      decoded_from size (map (shown_at shown_as) kept) (map coded_at rest) ≡
+      Some (map (λ c. shown_at shown_as c.picture) rest)
+  others_decoded done [] kept whole later keeps = refl
+  others_decoded done (c ∷ rest) kept whole later keeps =
+      let k : ℕ = c.picture in
+      let set : List ℕ = set_counts (header_in cfg count k) in
+      let both = and_parts (nat_lt 0 k) (list_all (λ d. nat_lt 0 d.picture) rest) later in
+      let some : 0 < k = ltb-true 0 k both.0 in
+      let h : SetIsKept done k (c ∷ rest) set =
+      set_kept cfg count good k done c rest refl whole (λ none. absurd (omega (arith, none, some)))
+      in
+      one_decoded done c rest kept (map (λ d. shown_at shown_as d.picture) rest) h keeps
+      (others_decoded (done ++ c ∷ []) rest (k ∷ set)
+      (whole ∙ sym (append_assoc done (c ∷ []) rest)) both.1 (keeps_next done c rest set h))
 
-    one_decoded : (done : List Coded) (c : Coded) (rest : List Coded) (kept : List ℕ)
-        (others : List DecodedPicture) →
-        SetIsKept done c.picture (c ∷ rest) (set_counts (header_in cfg count c.picture)) →
-        Keeps done (c ∷ rest) kept →
-        decoded_from size
-        (map shown_at (c.picture ∷ set_counts (header_in cfg count c.picture)))
-        (map coded_at rest) ≡ Some others →
-        decoded_from size (map shown_at kept) (map coded_at (c ∷ rest)) ≡
-        Some (shown_at c.picture ∷ others)
-    unfolding Keeps
-    one_decoded done c rest kept others h keeps behind =
-        let header : SliceHeader = header_in cfg count c.picture in
-        let set : List ℕ = set_counts header in
-        decoded_then header kept (map coded_at rest) others
-        (λ n there. let both = h.sound n there in keeps n both.0 both.1)
-        (subst
-        (λ n. decoded_from size (shown_at n ∷ map shown_at set) (map coded_at rest) ≡ Some others)
-        (sym (count_in c.picture)) behind) ∙
-        ap (λ n. Some (shown_at n ∷ others)) (count_in c.picture)
-
-    others_decoded : (done rest : List Coded) (kept : List ℕ) →
-        coding count cfg.levels ≡ done ++ rest →
-        list_all (λ c. nat_lt 0 c.picture) rest ≡ true → Keeps done rest kept →
-        decoded_from size (map shown_at kept) (map coded_at rest) ≡
-        Some (map (λ c. shown_at c.picture) rest)
-    others_decoded done [] kept whole later keeps = refl
-    others_decoded done (c ∷ rest) kept whole later keeps =
-        let k : ℕ = c.picture in
-        let set : List ℕ = set_counts (header_in cfg count k) in
-        let both = and_parts (nat_lt 0 k) (list_all (λ d. nat_lt 0 d.picture) rest) later in
-        let some : 0 < k = ltb-true 0 k both.0 in
-        let h : SetIsKept done k (c ∷ rest) set =
-        set_kept cfg count good k done c rest refl whole (λ none. absurd (omega (arith, none, some)))
-        in
-        one_decoded done c rest kept (map (λ d. shown_at d.picture) rest) h keeps
-        (others_decoded (done ++ c ∷ []) rest (k ∷ set)
-        (whole ∙ sym (append_assoc done (c ∷ []) rest)) both.1 (keeps_next done c rest set h))
-
-    -- all pictures of a group, from the first on
-    pub group_decoded : decoded_from size [] (map coded_at (coding count cfg.levels)) ≡
-        Some (map (λ c. shown_at c.picture) (coding count cfg.levels))
-    unfolding Keeps
-    group_decoded =
-        let first : Coded = coded 0 0 [] in
-        let rest : List Coded = blocks cfg.levels 0 (anchors count cfg.levels) in
-        let h : SetIsKept [] 0 (first ∷ rest) [] =
-        set_kept cfg count good 0 [] first rest refl refl (λ none. refl) in
-        one_decoded [] first rest [] (map (λ d. shown_at d.picture) rest) h
-        (λ other among referred. absurd (false≢true among))
-        (others_decoded (first ∷ []) rest (0 ∷ []) refl good.later
-        (keeps_next [] first rest [] h))
+  -- all pictures of a group, from the first on
+  pub group_decoded : decoded_from size [] (map coded_at (coding count cfg.levels)) ≡
+      Some (map (λ c. shown_at shown_as c.picture) (coding count cfg.levels))
+  unfolding Keeps
+  group_decoded =
+      let first : Coded = coded 0 0 [] in
+      let rest : List Coded = blocks cfg.levels 0 (anchors count cfg.levels) in
+      let h : SetIsKept [] 0 (first ∷ rest) [] =
+      set_kept cfg count good 0 [] first rest refl refl (λ none. refl) in
+      one_decoded [] first rest [] (map (λ d. shown_at shown_as d.picture) rest) h
+      (λ other among referred. absurd (false≢true among))
+      (others_decoded (first ∷ []) rest (0 ∷ []) refl good.later
+      (keeps_next [] first rest [] h))

@@ -9,9 +9,19 @@ mod KeepingLemmas
 mod GroupShownLemmas
 mod ListZeroLemmas
 mod WrittenUnitLemmas
+pub mod DecodedStreamLemmas
 pub mod RoundTripLemmas
+pub mod ChosenOffsetLemmas
+pub mod IntraUnitLemmas
+pub mod IntraStreamLemmas
+pub mod PlannedLevelLemmas
+pub mod PlannedSquareLemmas
+pub mod PlannedIntraLemmas
+pub mod IntraGroupLemmas
+mod BlankChoiceLemmas
 mod WorkedSequences
 mod WorkedGroups
 mod WorkedStreams
 mod WorkedRefusals
 mod WorkedPictures
+mod WorkedIntraStreams

@@ -1,277 +1,97 @@
--- What is written decodes to what is shown.
-use Rattle.std.proofs.Common.{◌≡◌, ◌≢◌, ℕ, zero, suc, ◌-◌, ◌*◌, ◌/◌, ◌%◌, ◌<◌, ◌≤◌, true, List, [], ◌∷◌, ◌++◌, length, map, refl, ap, ap₂, ◌∙◌, arith, eq-eqb}
-use Rattle.std.proofs.lemmas.Bool.{and_parts, eqb-true, ltb-true, not-true}
-use Rattle.std.specs.Prelude.{not, nat_lt, flat_map, Option, Some, option_and_then, option_map}
-use Rattle.std.specs.List.{list_all}
+-- What is written where nothing is chosen decodes to what is shown.
+use Rattle.std.proofs.Common.{◌≡◌, ◌⊎◌, inl, inr, ℕ, Bool, true, false, List, [], ◌∷◌, ◌++◌, length, map, refl, ap, ap₂, ◌∙◌, eq-eqb}
+use Rattle.std.proofs.lemmas.Bool.{eqb-true}
+use Rattle.std.specs.Prelude.{◌||◌, nat_eq, flat_map, Some}
 use Rattle.hv_types.specs.declared.settings.Settings.{Settings}
 use Rattle.hv_types.specs.declared.picture.Picture.{Picture}
-use Rattle.hv_types.specs.Configuration.{IsValid, padded_width, padded_height}
+use Rattle.hv_types.specs.Configuration.{IsValid}
 use Rattle.hv_types.specs.Video.{crop}
-use Rattle.hv_stream_model.specs.Units.{NalUnit}
-use Rattle.hv_stream_model.specs.Headers.{Size, SliceHeader, vps, sps, pps, used_count, read_vps, read_sps, read_pps, size_of}
-use Rattle.hv_stream_model.specs.HeaderLaws.{IsAllowed, OtherSlicesAreRead, OtherSlicesAreCodable, SlicesOfGroupsAreAllowed, header_of}
-use Rattle.hv_stream_model.specs.UnitLaws.{stream_of}
-use Rattle.hv_group_model.specs.Structure.{Coded, coding, blocks, anchors, qp_at}
+use Rattle.hv_stream_model.specs.Headers.{SliceHeader, used_count, size_of}
+use Rattle.hv_stream_model.specs.HeaderLaws.{OtherSlicesAreRead, OtherSlicesAreCodable, SlicesOfGroupsAreAllowed}
+use Rattle.hv_group_model.specs.Structure.{rising}
+use Rattle.hv_group_model.proofs.NumberListLemmas.{length-rising}
 use Rattle.hv_unit_model.specs.Trees.{CodingTreeUnit}
 use Rattle.hv_recon_model.specs.BlankLaws.{BlankPicturesAreGrey}
 use Rattle.hv_deblock_model.specs.FlatPictures.{FlatPicturesAreShown}
-use Rattle.hv_model.specs.PayloadLaws.{IsHeader, of_idr, of_other}
-use Rattle.hv_model.specs.Parsing.{CodedPicture, Sequence, begins_with_idr, in_front, cut_at_idrs, sequences_of, picture_of_unit, picture_then, pictures_of_units, parameters, with_parameters, sequences_after_sets, parsed_units}
-use Rattle.hv_model.specs.Decoding.{shown_sequence, shown_then, shown_of, decode_of}
-use Rattle.hv_slice_model.specs.Slices.{picture_sites, header_in}
-use Rattle.hv_model.specs.Encoding.{coded_units, recon_picture, encode_group, groups_of}
+use Rattle.hv_slice_model.specs.Slices.{list_0, picture_sites, header_in}
+use Rattle.hv_slice_model.proofs.BlankUnitLemmas.{blank_units_valid}
+use Rattle.hv_model.specs.Decoding.{decode_of}
+use Rattle.hv_model.specs.Encoding.{coded_units, recon_picture, encode_group, groups_of, encode_of}
 use Rattle.hv_model.specs.Built.{IsBuilt, is_built, BuiltIsDecided}
 use Rattle.hv_model.specs.RoundTrip.{DecodingGivesReconstruction}
-use Rattle.hv_stream_model.proofs.HeaderLemmas.{reads_vps, reads_sps, reads_pps, codable_vps, codable_sps, codable_pps, sizes_allowed}
-use Rattle.hv_stream_model.proofs.UnitLemmas.{streams_read, stream_of_units}
-use Rattle.hv_unit_model.proofs.UnitLemmas.{sites_there}
-use Rattle.hv_slice_model.proofs.BlankUnitLemmas.{blank_units_valid}
-use Rattle.hv_model.proofs.KeepingLemmas.{AreDecodedTo}
 use Rattle.hv_model.proofs.CodedUnitLemmas.{coded_units_grey}
-use Rattle.hv_model.proofs.PayloadLemmas.{parameters-back}
-use Rattle.hv_model.proofs.SliceLemmas.{slices_back}
-use Rattle.hv_model.proofs.GroupLemmas.{AreGroups, groups_are}
-use Rattle.hv_model.proofs.OrderLemmas.{IsGood, orders_good}
-use Rattle.hv_model.proofs.GroupShownLemmas.{group_shown}
-use Rattle.hv_model.proofs.WrittenUnitLemmas.{set_unit, slice_unit, group_units, units_after_sets, units, units_joined, all_units, groups_kept}
-use Rattle.hv_lemmas.proofs.ComparisonLemmas.{suc_other_than_0}
+use Rattle.hv_model.proofs.GroupShownLemmas.{alike}
+use Rattle.hv_model.proofs.KeepingLemmas.{shown_at, AreDecodedTo}
+use Rattle.hv_model.proofs.WrittenUnitLemmas.{written}
+use Rattle.hv_model.proofs.DecodedStreamLemmas.{stream_decoded}
 
--- ---- what is parsed
+-- each picture has these units, and is shown so
+abbrev units_of : Settings → List Picture → ℕ → List CodingTreeUnit
+units_of cfg group number = coded_units (picture_sites cfg)
 
--- a picture of a group of so many
-abbrev coded_in : Settings → ℕ → Coded → CodedPicture
-coded_in cfg count c = record {
-  header = header_in cfg count c.picture;
-  units = coded_units (picture_sites cfg);
-}
+abbrev shown_as : Settings → List Picture → ℕ → Picture
+shown_as cfg group number = recon_picture cfg
 
-abbrev coded_group : Settings → List Picture → List CodedPicture
-coded_group cfg group = map (coded_in cfg (length group)) (coding (length group) cfg.levels)
+stream_is : (cfg : Settings) (pictures : List Picture) →
+    encode_of cfg pictures ≡ written cfg (units_of cfg) pictures
+stream_is cfg [] = refl
+stream_is cfg (picture ∷ pictures) = refl
 
--- each group is a coded video sequence
-abbrev sequence_of : Settings → List Picture → Sequence
-sequence_of cfg group = record { size = size_of cfg; pictures = coded_group cfg group }
-
-blocks_there : (cfg : Settings) → IsValid cfg → picture_sites cfg ≢ []
-blocks_there cfg valid =
-    let wide : 8 ≤ cfg.width = valid.width_least in
-    let high : 8 ≤ cfg.height = valid.height_least in
-    sites_there (padded_width cfg) (padded_height cfg) (omega arith) (omega arith)
-
-parsed_then : (picture : Option CodedPicture) (pictures : Option (List CodedPicture))
-    (first : CodedPicture) (others : List CodedPicture) → picture ≡ Some first →
-    pictures ≡ Some others → picture_then picture pictures ≡ Some (first ∷ others)
-parsed_then picture pictures first others e f = rw (e, f) refl
-
--- ---- sequences
-
--- ends, or begins a sequence
-abbrev StartsAnew : List CodedPicture → Type 0
-StartsAnew [] = Unit {0}
-StartsAnew (picture ∷ pictures) = begins_with_idr (picture ∷ []) ≡ true
-
-cut_first : (first : CodedPicture) (others behind : List CodedPicture) →
-    list_all (λ p. not (begins_with_idr (p ∷ []))) others ≡ true → StartsAnew behind →
-    cut_at_idrs (first ∷ others ++ behind) ≡ (first ∷ others) ∷ cut_at_idrs behind
-cut_first first [] [] later anew = refl
-cut_first first [] (next ∷ behind) later anew = rw anew refl
-cut_first first (next ∷ others) behind later anew =
-    let both = and_parts (not (begins_with_idr (next ∷ [])))
-    (list_all (λ p. not (begins_with_idr (p ∷ []))) others) later in
-    rw (not-true (begins_with_idr (next ∷ [])) both.0)
-    (ap (in_front first) (cut_first next others behind both.1 anew))
-
-header_later : (cfg : Settings) (count k : ℕ) → 0 < k →
-    not (begins_with_idr (record {
-      header = header_in cfg count k;
-      units = coded_units (picture_sites cfg);
-    } ∷ [])) ≡ true
-header_later cfg count zero some = absurd (omega arith)
-header_later cfg count (suc k) some = ap not (suc_other_than_0 k)
-
-later_coded : (cfg : Settings) (count : ℕ) (order : List Coded) →
-    list_all (λ c. nat_lt 0 c.picture) order ≡ true →
-    list_all (λ p. not (begins_with_idr (p ∷ []))) (map (coded_in cfg count) order) ≡ true
-later_coded cfg count [] later = refl
-later_coded cfg count (c ∷ order) later =
-    let both = and_parts (nat_lt 0 c.picture) (list_all (λ d. nat_lt 0 d.picture) order) later in
-    rw (header_later cfg count c.picture (ltb-true 0 c.picture both.0))
-    (later_coded cfg count order both.1)
-
-groups_anew : (cfg : Settings) (groups : List (List Picture)) →
-    StartsAnew (flat_map (coded_group cfg) groups)
-groups_anew cfg [] = tt
-groups_anew cfg (group ∷ groups) = refl
-
-module _ (cfg : Settings) (valid : IsValid cfg) where
-  good_order : (count : ℕ) → 1 ≤ count → count ≤ cfg.group →
-      IsGood count (coding count cfg.levels)
-  good_order count some few =
-      orders_good count cfg.levels some (omega (arith, few, valid.group_most)) valid.levels
-
-  cut_apart : (groups : List (List Picture)) → AreGroups cfg.group groups →
-      cut_at_idrs (flat_map (coded_group cfg) groups) ≡ map (coded_group cfg) groups
-  cut_apart [] h = refl
-  cut_apart (group ∷ groups) h =
-      let count : ℕ = length group in
-      let rest : List Coded = blocks cfg.levels 0 (anchors count cfg.levels) in
-      cut_first (coded_in cfg count (record { picture = 0; depth = 0; references = [] }))
-      (map (coded_in cfg count) rest) (flat_map (coded_group cfg) groups)
-      (later_coded cfg count rest (good_order count h.0 h.1).later) (groups_anew cfg groups) ∙
-      ap (λ others. coded_group cfg group ∷ others) (cut_apart groups h.2)
-
-  sequences_with : (groups : List (List Picture)) →
-      map (λ (sequence : List CodedPicture). record { size = size_of cfg; pictures = sequence })
-      (map (coded_group cfg) groups) ≡ map (sequence_of cfg) groups
-  sequences_with [] = refl
-  sequences_with (group ∷ groups) =
-      ap (λ others. sequence_of cfg group ∷ others) (sequences_with groups)
-
-  sequences_apart : (groups : List (List Picture)) → AreGroups cfg.group groups →
-      sequences_of (size_of cfg) (flat_map (coded_group cfg) groups) ≡ map (sequence_of cfg) groups
-  sequences_apart groups h =
-      ap
-      (map (λ (sequence : List CodedPicture). record { size = size_of cfg; pictures = sequence }))
-      (cut_apart groups h) ∙
-      sequences_with groups
-
-  -- ---- what is shown
-
-  sequence_is_shown : AreDecodedTo (size_of cfg) (coded_units (picture_sites cfg))
-      (recon_picture cfg) → (group : List Picture) → 1 ≤ length group → length group ≤ cfg.group →
-      shown_sequence (sequence_of cfg group) ≡ Some (encode_group cfg group).shown
-  sequence_is_shown are_grey group some few =
-      let even_width : cfg.width % 2 ≡ 0 = valid.even_width in
-      let even_height : cfg.height % 2 ≡ 0 = valid.even_height in
-      let right : padded_width cfg - 2 * ((padded_width cfg - cfg.width) / 2) ≡ cfg.width =
-      omega arith in
-      let bottom : padded_height cfg - 2 * ((padded_height cfg - cfg.height) / 2) ≡ cfg.height =
-      omega arith in
-      let units : List CodingTreeUnit = coded_units (picture_sites cfg) in
-      group_shown (size_of cfg) units (recon_picture cfg) are_grey cfg (length group)
-      (good_order (length group) some few) group refl ∙
-      ap₂ (λ w h. Some (map (λ (picture : Picture). crop (recon_picture cfg) w h) group)) right bottom
-
-  sequences_are_shown : AreDecodedTo (size_of cfg) (coded_units (picture_sites cfg))
-      (recon_picture cfg) → (groups : List (List Picture)) → AreGroups cfg.group groups →
-      shown_of (map (sequence_of cfg) groups) ≡
-      Some (flat_map (λ group. (encode_group cfg group).shown) groups)
-  sequences_are_shown are_grey [] h = refl
-  sequences_are_shown are_grey (group ∷ groups) h =
-      ap₂ (λ p ps. shown_then p ps) (sequence_is_shown are_grey group h.0 h.1)
-      (sequences_are_shown are_grey groups h.2)
-
--- ---- by what headers of pictures but the first are
+all_shown : (cfg : Settings) (groups : List (List Picture)) →
+    flat_map
+    (λ group. map (λ n. crop (recon_picture cfg) cfg.width cfg.height) (rising (length group) 0))
+    groups ≡
+    flat_map (λ group. (encode_group cfg group).shown) groups
+all_shown cfg [] = refl
+all_shown cfg (group ∷ groups) =
+    ap₂ (λ first others. first ++ others)
+    (alike (crop (recon_picture cfg) cfg.width cfg.height) (rising (length group) 0) group
+    (length-rising (length group) 0))
+    (all_shown cfg groups)
 
 module _
     (reads_other : OtherSlicesAreRead) (codable_other : OtherSlicesAreCodable)
     (allowed : SlicesOfGroupsAreAllowed) (grey : BlankPicturesAreGrey)
     (flat : FlatPicturesAreShown) where
-  header_allowed : (cfg : Settings) → IsValid cfg → (count k : ℕ) → count ≤ 64 → k < count →
-      IsHeader cfg.levels (header_in cfg count k)
-  header_allowed cfg valid count zero few below = of_idr (qp_at cfg.qp 0) (omega arith)
-  header_allowed cfg valid count (suc k) few below =
-      of_other (header_of count cfg.levels cfg.qp (suc k))
-      (allowed count cfg.levels cfg.qp k few valid.levels below).1
-
-  picture_is_parsed : (cfg : Settings) → IsValid cfg → (count : ℕ) (c : Coded) → count ≤ 64 →
-      c.picture < count →
-      picture_of_unit cfg.levels (size_of cfg) (slice_unit cfg count c) ≡
-      Some (coded_in cfg count c)
-  picture_is_parsed cfg valid count c few below =
-      let header : SliceHeader = header_in cfg count c.picture in
-      slices_back reads_other codable_other cfg.levels (size_of cfg) header
-      (coded_units (picture_sites cfg)) valid.levels (blocks_there cfg valid)
-      (header_allowed cfg valid count c.picture few below)
-      (blank_units_valid header.slice_type (used_count header.references) (picture_sites cfg))
-
-  group_is_parsed : (cfg : Settings) → IsValid cfg → (count : ℕ) (order : List Coded)
-      (behind : List NalUnit) (others : List CodedPicture) → count ≤ 64 →
-      list_all (λ c. nat_lt c.picture count) order ≡ true →
-      pictures_of_units cfg.levels (size_of cfg) behind ≡ Some others →
-      pictures_of_units cfg.levels (size_of cfg) (map (slice_unit cfg count) order ++ behind) ≡
-      Some (map (coded_in cfg count) order ++ others)
-  group_is_parsed cfg valid count [] behind others few below e = e
-  group_is_parsed cfg valid count (c ∷ order) behind others few below e =
-      let both = and_parts (nat_lt c.picture count)
-      (list_all (λ d. nat_lt d.picture count) order) below in
-      parsed_then (picture_of_unit cfg.levels (size_of cfg) (slice_unit cfg count c))
-      (pictures_of_units cfg.levels (size_of cfg) (map (slice_unit cfg count) order ++ behind))
-      (coded_in cfg count c) (map (coded_in cfg count) order ++ others)
-      (picture_is_parsed cfg valid count c few (ltb-true c.picture count both.0))
-      (group_is_parsed cfg valid count order behind others few both.1 e)
-
-  groups_are_parsed : (cfg : Settings) → IsValid cfg → (groups : List (List Picture)) →
-      AreGroups cfg.group groups →
-      pictures_of_units cfg.levels (size_of cfg) (flat_map (group_units cfg) groups) ≡
-      Some (flat_map (coded_group cfg) groups)
-  groups_are_parsed cfg valid [] h = refl
-  groups_are_parsed cfg valid (group ∷ groups) h =
-      group_is_parsed cfg valid (length group) (coding (length group) cfg.levels)
-      (flat_map (group_units cfg) groups) (flat_map (coded_group cfg) groups)
-      (omega (arith, h.1, valid.group_most))
-      (good_order cfg valid (length group) h.0 h.1).below
-      (groups_are_parsed cfg valid groups h.2)
-
-  parameters_given : (levels : ℕ) (size : Size) (vps_read : Option ℕ)
-      (sps_read : Option (ℕ × Size)) (pps_read : Option (Unit {0})) (after : List NalUnit) →
-      vps_read ≡ Some levels → sps_read ≡ Some (levels, size) → pps_read ≡ Some tt →
-      with_parameters vps_read sps_read pps_read after ≡
-      option_map (sequences_of size) (pictures_of_units levels size after)
-  parameters_given levels size vps_read sps_read pps_read after p q r =
-      rw (p, q, r, eq-eqb levels levels refl) refl
-
-  sets_read : (cfg : Settings) → cfg.levels ≤ 3 → IsAllowed (size_of cfg) →
-      (after : List NalUnit) →
-      sequences_after_sets
-      (set_unit 32 (vps cfg.levels) ∷ set_unit 33 (sps cfg.levels (size_of cfg)) ∷
-      set_unit 34 pps ∷ after) ≡
-      option_map (sequences_of (size_of cfg)) (pictures_of_units cfg.levels (size_of cfg) after)
-  sets_read cfg few fits after =
-      let size : Size = size_of cfg in
-      let video : NalUnit = set_unit 32 (vps cfg.levels) in
-      let sequence : NalUnit = set_unit 33 (sps cfg.levels size) in
-      let picture : NalUnit = set_unit 34 pps in
-      parameters_given cfg.levels size (parameters read_vps video) (parameters read_sps sequence)
-      (parameters read_pps picture) after
-      (parameters-back ℕ read_vps (vps cfg.levels) cfg.levels video
-      (reads_vps cfg.levels few) (codable_vps cfg.levels few) refl)
-      (parameters-back (ℕ × Size) read_sps (sps cfg.levels size) (cfg.levels, size) sequence
-      (reads_sps cfg.levels size few fits) (codable_sps cfg.levels size few fits) refl)
-      (parameters-back (Unit {0}) read_pps pps tt picture reads_pps codable_pps refl)
-
-  units_parsed : (cfg : Settings) → IsValid cfg → (pictures : List Picture) →
-      parsed_units (units cfg pictures) ≡ Some (map (sequence_of cfg) (groups_of cfg pictures))
-  units_parsed cfg valid [] = refl
-  units_parsed cfg valid (picture ∷ pictures) =
-      let all : List Picture = picture ∷ pictures in
-      let groups : List (List Picture) = groups_of cfg all in
-      let are : AreGroups cfg.group groups = groups_are cfg all valid.group_least in
-      ap (λ us. sequences_after_sets
-      (set_unit 32 (vps cfg.levels) ∷ set_unit 33 (sps cfg.levels (size_of cfg)) ∷
-      set_unit 34 pps ∷ us))
-      (groups_kept cfg groups) ∙
-      sets_read cfg valid.levels (sizes_allowed cfg valid) (units_after_sets cfg all) ∙
-      ap (option_map (sequences_of (size_of cfg))) (groups_are_parsed cfg valid groups are) ∙
-      ap (λ sequences. Some sequences) (sequences_apart cfg valid groups are)
+  all_decoded : (cfg : Settings) → IsValid cfg → (group : List Picture) →
+      AreDecodedTo (size_of cfg) (shown_as cfg group) cfg (length group) (units_of cfg group)
+  all_decoded cfg valid group k =
+      let header : SliceHeader = header_in cfg (length group) k in
+      coded_units_grey grey flat cfg valid header
+      (map (shown_at (shown_as cfg group)) (list_0 header))
 
   pub decoding_gives : DecodingGivesReconstruction
   decoding_gives cfg pictures valid effort =
-      ap decode_of (units_joined cfg pictures) ∙
-      ap (λ found. option_and_then shown_of (option_and_then parsed_units found))
-      (streams_read (stream_of (units cfg pictures)) (units cfg pictures)
-      (stream_of_units (units cfg pictures) (all_units cfg pictures))) ∙
-      ap (option_and_then shown_of) (units_parsed cfg valid pictures) ∙
-      sequences_are_shown cfg valid (coded_units_grey grey flat cfg valid) (groups_of cfg pictures)
-      (groups_are cfg pictures valid.group_least)
+      ap decode_of (stream_is cfg pictures) ∙
+      stream_decoded reads_other codable_other allowed cfg valid (units_of cfg)
+      (λ group k.
+      let header = header_in cfg (length group) k in
+      blank_units_valid header.slice_type (used_count header.references) (picture_sites cfg))
+      (shown_as cfg) (all_decoded cfg valid) pictures ∙
+      ap (λ shown. Some shown) (all_shown cfg (groups_of cfg pictures))
 
 -- ---- the test of the settings built
 
+either_is : (a b : ℕ) → nat_eq a 0 || nat_eq b 1 ≡ true → (a ≡ 0) ⊎ (b ≡ 1)
+either_is a b e = by (nat_eq a 0) refl e
+    where
+      by : (test : Bool) → nat_eq a 0 ≡ test → test || nat_eq b 1 ≡ true → (a ≡ 0) ⊎ (b ≡ 1)
+      by true is e = inl (eqb-true a 0 is)
+      by false is e = inr (eqb-true b 1 e)
+
+is_either : (a b : ℕ) → (a ≡ 0) ⊎ (b ≡ 1) → nat_eq a 0 || nat_eq b 1 ≡ true
+is_either a b (inl e) = rw (eq-eqb a 0 e) refl
+is_either a b (inr e) = by (nat_eq a 0)
+    where
+      by : (test : Bool) → test || nat_eq b 1 ≡ true
+      by true = refl
+      by false = eq-eqb b 1 e
+
 from_test : (s : Settings) → IsValid s → is_built s ≡ true → IsBuilt s
-from_test s valid e = record { valid = valid; effort = eqb-true s.effort 0 e }
+from_test s valid e = record { valid = valid; predicted = either_is s.effort s.group e }
 
 to_test : (s : Settings) → IsBuilt s → is_built s ≡ true
-to_test s h = eq-eqb s.effort 0 h.effort
+to_test s h = is_either s.effort s.group h.predicted
 
 pub built_decided : BuiltIsDecided
 built_decided s valid = (from_test s valid, to_test s)

@@ -1,4 +1,4 @@
--- The NAL units that the encoder writes, one behind another: the stream is theirs.
+-- The NAL units that an encoder writes for a video, one behind another: the stream is theirs.
 use Rattle.std.proofs.Common.{◌≡◌, ℕ, ◌<◌, Bool, true, false, List, [], ◌∷◌, ◌++◌, length, map, refl, ap, ap₂, ◌∙◌, sym, arith, append_assoc}
 use Rattle.std.specs.Prelude.{not, cond, nat_eq, nat_le, ◌||◌, flat_map, filter}
 use Rattle.std.proofs.lemmas.List.Elements.{filter-append}
@@ -7,7 +7,7 @@ use Rattle.hv_types.specs.declared.picture.Picture.{Picture}
 use Rattle.hv_stream_model.specs.Bits.{bytes_of}
 use Rattle.hv_stream_model.specs.Fields.{Field, bits_of_fields, aligned}
 use Rattle.hv_stream_model.specs.Units.{NalUnit, TRAIL_R, IDR_N_LP, IsUnit, unit_bytes}
-use Rattle.hv_stream_model.specs.Headers.{SliceHeader, vps, sps, pps, size_of}
+use Rattle.hv_stream_model.specs.Headers.{SliceHeader, vps, sps, pps, parameter_sets, size_of}
 use Rattle.hv_stream_model.specs.UnitLaws.{AreUnits, stream_of}
 use Rattle.hv_stream_model.proofs.FieldLemmas.{last_of-aligned}
 use Rattle.hv_group_model.specs.Structure.{Coded, coding}
@@ -15,7 +15,7 @@ use Rattle.hv_unit_model.specs.Sites.{Site}
 use Rattle.hv_unit_model.specs.Trees.{CodingTreeUnit}
 use Rattle.hv_slice_model.specs.Slices.{is_idr, unit_of_slice, picture_sites, header_in}
 use Rattle.hv_model.specs.Parsing.{is_passed_over}
-use Rattle.hv_model.specs.Encoding.{coded_units, picture_unit, group_bytes, groups_of, encode_of}
+use Rattle.hv_model.specs.Encoding.{groups_of}
 use Rattle.hv_slice_model.proofs.SliceEndLemmas.{slices_end}
 
 -- ---- the units
@@ -27,23 +27,36 @@ unit_with nal_unit_type payload =
 abbrev pub set_unit : ℕ → List Field → NalUnit
 set_unit nal_unit_type fields = unit_with nal_unit_type (bytes_of (aligned (bits_of_fields fields)))
 
--- of a picture of a group of so many
-abbrev pub slice_unit : Settings → ℕ → Coded → NalUnit
-slice_unit cfg count c =
-    unit_of_slice (header_in cfg count c.picture) (picture_sites cfg)
-    (coded_units (picture_sites cfg))
+-- ---- of a video whose pictures have these units, by group and number in it
 
-abbrev pub group_units : Settings → List Picture → List NalUnit
-group_units cfg group = map (slice_unit cfg (length group)) (coding (length group) cfg.levels)
+module _ (cfg : Settings) (units_of : List Picture → ℕ → List CodingTreeUnit) where
+  abbrev pub slice_unit : List Picture → Coded → NalUnit
+  slice_unit group c =
+      unit_of_slice (header_in cfg (length group) c.picture) (picture_sites cfg)
+      (units_of group c.picture)
 
-abbrev pub units_after_sets : Settings → List Picture → List NalUnit
-units_after_sets cfg pictures = flat_map (group_units cfg) (groups_of cfg pictures)
+  abbrev pub group_units : List Picture → List NalUnit
+  group_units group = map (slice_unit group) (coding (length group) cfg.levels)
 
-abbrev pub units : Settings → List Picture → List NalUnit
-units cfg [] = []
-units cfg (picture ∷ pictures) =
-    set_unit 32 (vps cfg.levels) ∷ set_unit 33 (sps cfg.levels (size_of cfg)) ∷ set_unit 34 pps ∷
-    units_after_sets cfg (picture ∷ pictures)
+  abbrev pub units_after_sets : List Picture → List NalUnit
+  units_after_sets pictures = flat_map group_units (groups_of cfg pictures)
+
+  abbrev pub units : List Picture → List NalUnit
+  units [] = []
+  units (picture ∷ pictures) =
+      set_unit 32 (vps cfg.levels) ∷ set_unit 33 (sps cfg.levels (size_of cfg)) ∷
+      set_unit 34 pps ∷ units_after_sets (picture ∷ pictures)
+
+  -- what is written
+  abbrev pub group_written : List Picture → List ℕ
+  group_written group =
+      flat_map (λ bytes. bytes)
+      (map (λ c. unit_bytes (slice_unit group c)) (coding (length group) cfg.levels))
+
+  abbrev pub written : List Picture → List ℕ
+  written [] = []
+  written (picture ∷ pictures) =
+      parameter_sets cfg ++ flat_map group_written (groups_of cfg (picture ∷ pictures))
 
 -- ---- the stream
 
@@ -53,35 +66,38 @@ stream-append (unit ∷ a) b =
     ap (λ bytes. unit_bytes unit ++ bytes) (stream-append a b) ∙
     sym (append_assoc (unit_bytes unit) (stream_of a) (stream_of b))
 
-slices_joined : (cfg : Settings) (count : ℕ) (order : List Coded) →
-    flat_map (λ unit. unit) (map (λ c. picture_unit cfg count c.picture) order) ≡
-    stream_of (map (slice_unit cfg count) order)
-slices_joined cfg count [] = refl
-slices_joined cfg count (c ∷ order) =
-    ap (λ bytes. picture_unit cfg count c.picture ++ bytes) (slices_joined cfg count order)
-
-groups_joined : (cfg : Settings) (groups : List (List Picture)) →
-    flat_map (group_bytes cfg) groups ≡ stream_of (flat_map (group_units cfg) groups)
-groups_joined cfg [] = refl
-groups_joined cfg (group ∷ groups) =
-    ap₂ (λ a b. a ++ b)
-    (slices_joined cfg (length group) (coding (length group) cfg.levels))
-    (groups_joined cfg groups) ∙
-    sym (stream-append (group_units cfg group) (flat_map (group_units cfg) groups))
+slices_joined : (unit_of : Coded → NalUnit) (order : List Coded) →
+    flat_map (λ bytes. bytes) (map (λ c. unit_bytes (unit_of c)) order) ≡
+    stream_of (map unit_of order)
+slices_joined unit_of [] = refl
+slices_joined unit_of (c ∷ order) =
+    ap (λ bytes. unit_bytes (unit_of c) ++ bytes) (slices_joined unit_of order)
 
 three_and : (a b c d : List ℕ) → a ++ b ++ c ++ d ≡ a ++ (b ++ (c ++ d))
 three_and a b c d = simp append_assoc
 
-pub units_joined : (cfg : Settings) (pictures : List Picture) →
-    encode_of cfg pictures ≡ stream_of (units cfg pictures)
-units_joined cfg [] = refl
-units_joined cfg (picture ∷ pictures) =
-    let video : List ℕ = unit_bytes (set_unit 32 (vps cfg.levels)) in
-    let sequence : List ℕ = unit_bytes (set_unit 33 (sps cfg.levels (size_of cfg))) in
-    let parameters : List ℕ = unit_bytes (set_unit 34 pps) in
-    let all : List (List Picture) = groups_of cfg (picture ∷ pictures) in
-    three_and video sequence parameters (flat_map (group_bytes cfg) all) ∙
-    ap (λ bytes. video ++ (sequence ++ (parameters ++ bytes))) (groups_joined cfg all)
+module _ (cfg : Settings) (units_of : List Picture → ℕ → List CodingTreeUnit) where
+  groups_joined : (groups : List (List Picture)) →
+      flat_map (group_written cfg units_of) groups ≡
+      stream_of (flat_map (group_units cfg units_of) groups)
+  groups_joined [] = refl
+  groups_joined (group ∷ groups) =
+      ap₂ (λ a b. a ++ b)
+      (slices_joined (slice_unit cfg units_of group) (coding (length group) cfg.levels))
+      (groups_joined groups) ∙
+      sym
+      (stream-append (group_units cfg units_of group) (flat_map (group_units cfg units_of) groups))
+
+  pub units_joined : (pictures : List Picture) →
+      written cfg units_of pictures ≡ stream_of (units cfg units_of pictures)
+  units_joined [] = refl
+  units_joined (picture ∷ pictures) =
+      let video : List ℕ = unit_bytes (set_unit 32 (vps cfg.levels)) in
+      let sequence : List ℕ = unit_bytes (set_unit 33 (sps cfg.levels (size_of cfg))) in
+      let parameters : List ℕ = unit_bytes (set_unit 34 pps) in
+      let all : List (List Picture) = groups_of cfg (picture ∷ pictures) in
+      three_and video sequence parameters (flat_map (group_written cfg units_of) all) ∙
+      ap (λ bytes. video ++ (sequence ++ (parameters ++ bytes))) (groups_joined all)
 
 -- ---- they are units
 
@@ -108,34 +124,35 @@ slice_is_unit header sites units =
       ends = slices_end header sites units;
     }
 
-group_are_units : (cfg : Settings) (count : ℕ) (order : List Coded) (behind : List NalUnit) →
-    AreUnits behind → AreUnits (map (slice_unit cfg count) order ++ behind)
-group_are_units cfg count [] behind h = h
-group_are_units cfg count (c ∷ order) behind h = (
-  slice_is_unit (header_in cfg count c.picture) (picture_sites cfg)
-      (coded_units (picture_sites cfg)),
-  group_are_units cfg count order behind h,
-)
+module _ (cfg : Settings) (units_of : List Picture → ℕ → List CodingTreeUnit) where
+  group_are_units : (group : List Picture) (order : List Coded) (behind : List NalUnit) →
+      AreUnits behind → AreUnits (map (slice_unit cfg units_of group) order ++ behind)
+  group_are_units group [] behind h = h
+  group_are_units group (c ∷ order) behind h = (
+    slice_is_unit (header_in cfg (length group) c.picture) (picture_sites cfg)
+        (units_of group c.picture),
+    group_are_units group order behind h,
+  )
 
-groups_are_units : (cfg : Settings) (groups : List (List Picture)) →
-    AreUnits (flat_map (group_units cfg) groups)
-groups_are_units cfg [] = tt
-groups_are_units cfg (group ∷ groups) =
-    group_are_units cfg (length group) (coding (length group) cfg.levels)
-    (flat_map (group_units cfg) groups) (groups_are_units cfg groups)
+  groups_are_units : (groups : List (List Picture)) →
+      AreUnits (flat_map (group_units cfg units_of) groups)
+  groups_are_units [] = tt
+  groups_are_units (group ∷ groups) =
+      group_are_units group (coding (length group) cfg.levels)
+      (flat_map (group_units cfg units_of) groups) (groups_are_units groups)
 
-pub all_units : (cfg : Settings) (pictures : List Picture) → AreUnits (units cfg pictures)
-all_units cfg [] = tt
-all_units cfg (picture ∷ pictures) = (
-  set_is_unit 32 (vps cfg.levels) (omega arith),
-  (
-    set_is_unit 33 (sps cfg.levels (size_of cfg)) (omega arith),
+  pub all_units : (pictures : List Picture) → AreUnits (units cfg units_of pictures)
+  all_units [] = tt
+  all_units (picture ∷ pictures) = (
+    set_is_unit 32 (vps cfg.levels) (omega arith),
     (
-      set_is_unit 34 pps (omega arith),
-      groups_are_units cfg (groups_of cfg (picture ∷ pictures)),
+      set_is_unit 33 (sps cfg.levels (size_of cfg)) (omega arith),
+      (
+        set_is_unit 34 pps (omega arith),
+        groups_are_units (groups_of cfg (picture ∷ pictures)),
+      ),
     ),
-  ),
-)
+  )
 
 -- ---- none of them is passed over
 
@@ -148,23 +165,25 @@ kept_first : (t : Bool) (unit : NalUnit) (kept rest : List NalUnit) → t ≡ tr
     cond t (unit ∷ kept) kept ≡ unit ∷ rest
 kept_first t unit kept rest e f = rw (e, f) refl
 
-group_kept : (cfg : Settings) (count : ℕ) (order : List Coded) →
-    filter (λ unit. not (is_passed_over unit)) (map (slice_unit cfg count) order) ≡
-    map (slice_unit cfg count) order
-group_kept cfg count [] = refl
-group_kept cfg count (c ∷ order) =
-    kept_first (not (is_passed_over (slice_unit cfg count c))) (slice_unit cfg count c)
-    (filter (λ unit. not (is_passed_over unit)) (map (slice_unit cfg count) order))
-    (map (slice_unit cfg count) order)
-    (kept_type (is_idr (header_in cfg count c.picture))) (group_kept cfg count order)
+module _ (cfg : Settings) (units_of : List Picture → ℕ → List CodingTreeUnit) where
+  group_kept : (group : List Picture) (order : List Coded) →
+      filter (λ unit. not (is_passed_over unit)) (map (slice_unit cfg units_of group) order) ≡
+      map (slice_unit cfg units_of group) order
+  group_kept group [] = refl
+  group_kept group (c ∷ order) =
+      kept_first (not (is_passed_over (slice_unit cfg units_of group c)))
+      (slice_unit cfg units_of group c)
+      (filter (λ unit. not (is_passed_over unit)) (map (slice_unit cfg units_of group) order))
+      (map (slice_unit cfg units_of group) order)
+      (kept_type (is_idr (header_in cfg (length group) c.picture))) (group_kept group order)
 
-pub groups_kept : (cfg : Settings) (groups : List (List Picture)) →
-    filter (λ unit. not (is_passed_over unit)) (flat_map (group_units cfg) groups) ≡
-    flat_map (group_units cfg) groups
-groups_kept cfg [] = refl
-groups_kept cfg (group ∷ groups) =
-    filter-append (λ unit. not (is_passed_over unit)) (group_units cfg group)
-    (flat_map (group_units cfg) groups) ∙
-    ap₂ (λ a b. a ++ b)
-    (group_kept cfg (length group) (coding (length group) cfg.levels))
-    (groups_kept cfg groups)
+  pub groups_kept : (groups : List (List Picture)) →
+      filter (λ unit. not (is_passed_over unit)) (flat_map (group_units cfg units_of) groups) ≡
+      flat_map (group_units cfg units_of) groups
+  groups_kept [] = refl
+  groups_kept (group ∷ groups) =
+      filter-append (λ unit. not (is_passed_over unit)) (group_units cfg units_of group)
+      (flat_map (group_units cfg units_of) groups) ∙
+      ap₂ (λ a b. a ++ b)
+      (group_kept group (coding (length group) cfg.levels))
+      (groups_kept groups)

@@ -7,3 +7,7 @@ pub mod PayloadLaws
 pub mod EncodingLaws
 pub mod ReferenceLaws
 pub mod RoundTrip
+pub mod IntraPictures
+pub mod IntraLaws
+pub mod PlannedPictures
+pub mod IntraEncodingLaws

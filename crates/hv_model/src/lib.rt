@@ -4,13 +4,22 @@
 #![tactic(auto)]
 
 mod encoding_laws;
+mod intra_encoding;
+mod intra_pictures;
 mod payload_laws;
+mod planned_pictures;
 mod reference_laws;
 mod round_trip;
 
 pub use encoding_laws::{encoding_appends, encoding_ignores_samples, reconstruction_appends};
+pub use intra_encoding::{intra_encoding_appends, intra_reconstruction_appends};
+pub use intra_pictures::{
+    each_intra_picture_is_shown, intra_pictures_are_decoded, intra_streams_are_decoded,
+    intra_units_may_be_coded, nothing_is_chosen_at_effort_zero, videos_are_blank_at_effort_zero,
+};
 pub use payload_laws::{
     alignment_is_read, parameters_are_read, slice_data_is_read, slices_are_read,
 };
+pub use planned_pictures::planned_squares_are_those_of_trees;
 pub use reference_laws::{list_zero_has_the_active_references, sets_give_the_references};
 pub use round_trip::{built_is_decided, decoding_gives_reconstruction, each_is_reconstructed};

@@ -53,7 +53,7 @@ fn checked(settings: Settings) -> Result<Config, WordsError>
 fn is_built(settings: &Settings) -> bool
     ensures { result ≡ is_accepted settings.now }
 {
-    settings.effort == 0
+    (settings.effort == 0 || settings.group == 1)
         && settings.workers == 1
         && settings.emit == Emit::Stream
         && settings.synth.is_none()

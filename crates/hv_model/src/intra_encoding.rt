@@ -1,0 +1,16 @@
+//! How the stream of a video grows with its pictures, whose units are predicted within them.
+
+ghost use Rattle.hv_model.specs.IntraEncodingLaws.{IntraEncodingAppends, IntraReconstructionAppends};
+
+/// The stream of a video of whole groups with one more group at its end, which may have fewer
+/// pictures, is the stream without it and then the bytes of the group, before the first one with
+/// the parameter sets (7.3.2) in front.
+pub fn intra_encoding_appends()
+    ensures { IntraEncodingAppends }
+{}
+
+/// The reconstructed pictures of such a video are those without the last group, and then those of
+/// the group.
+pub fn intra_reconstruction_appends()
+    ensures { IntraReconstructionAppends }
+{}

@@ -1,0 +1,10 @@
+//! Pictures that an encoder keeps as plans.
+
+ghost use Rattle.hv_model.specs.PlannedPictures.{PlannedSquaresAreThoseOfTrees};
+
+/// How the squares inside a picture are coded (8.7.2), which deblocking asks, is by its plans what
+/// it is by their trees, as a decoder has them: where each plan names its units, and the vectors
+/// are those of its inter units.
+pub fn planned_squares_are_those_of_trees()
+    ensures { PlannedSquaresAreThoseOfTrees }
+{}

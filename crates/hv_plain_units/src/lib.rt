@@ -27,3 +27,4 @@ pub use picture::Slice;
 pub use round_trip::{is_end, read_slices_back};
 pub use slice::read_slice;
 pub use source::Source;
+pub use writer::{block_of, neighbours, write_slice};

@@ -10,7 +10,7 @@ use hv_types::{BinSink, NoMemory};
 use std::alloc::Global;
 
 /// The bytes of a slice of these blocks; none where the units of one don't name its coding units.
-pub(crate) fn write_slice(
+pub fn write_slice(
     alloc: Global,
     slice: Slice,
     qp: u8,
@@ -62,7 +62,7 @@ fn put_block(
 }
 
 /// The edges of the blocks around that of this number, of those of the blocks before it.
-fn neighbours(edges: &[Edges], number: usize, columns: usize) -> Neighbours {
+pub fn neighbours(edges: &[Edges], number: usize, columns: usize) -> Neighbours {
     let has_left = columns > 0 && number % columns > 0;
     let has_right = columns > 0 && number % columns < columns - 1;
     Neighbours {
@@ -82,7 +82,7 @@ fn edges_before(edges: &[Edges], number: usize, back: usize, is_there: bool) -> 
 }
 
 /// The block in memory, its samples 0.
-fn block_of(alloc: Global, coded: &CodedBlock) -> Result<Block, NoMemory> {
+pub fn block_of(alloc: Global, coded: &CodedBlock) -> Result<Block, NoMemory> {
     let mut block = Block::new(alloc)?;
     for address in 0..64u8 {
         if let Some(square) = coded.squares[usize::from(address)] {

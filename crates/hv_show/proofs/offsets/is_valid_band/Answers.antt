@@ -1,0 +1,9 @@
+use Rattle.std.proofs.Common.{refl, arith}
+use Rattle.hv_show.proofs.OffsetLemmas.{band_valid}
+use Rattle.hv_show.proofs.offsets.is_valid_band.Goals as goal
+
+pub returns : goal.returns
+returns c = λ yes.
+    band_valid c.args.component c.args.position c.requires (omega (arith, c.if-position-ge32.false))
+    (c.if-not-lies_between.ensures refl) (c.if-not-lies_between-2.ensures refl) (c.if-not-lies_between-3.ensures refl)
+    (c.lies_between-3.ensures yes)

@@ -3,15 +3,14 @@
 use Rattle.std.proofs.Common.{◌≡◌, ◌⊎◌, ℕ, zero, suc, ◌+◌, ◌-◌, ◌*◌, ◌<◌, ◌≤◌, List, [], ◌++◌, length, take, drop, refl, sym, ap, subst, ◌∙◌, inl, inr, arith, length-drop, zero-mul}
 use Rattle.std.specs.Prelude.{Option, Some, Bool, nat_eq, Result, Err}
 use Rattle.std.proofs.Math.Seq.{take-length}
-use Rattle.std.proofs.lemmas.List.{length-take-le}
+use Rattle.std.proofs.lemmas.List.{take-take}
 use Rattle.hv_types.specs.declared.settings.Settings.{Settings}
-use Rattle.hv_types.specs.declared.settings.Emit.TheVariants.{Stream}
 use Rattle.hv_types.specs.declared.picture.Picture.{Picture}
 use Rattle.hv_types.specs.Configuration.{most_pictures, picture_bytes}
 use Rattle.hv_types.specs.Outside.{Rises}
 use Rattle.hv_types.proofs.ConfigurationLemmas.{picture_bytes-least}
 use Rattle.hv_model.specs.Built.{IsBuilt}
-use Rattle.hv_model.specs.Encoding.{output}
+use Rattle.hv_model.specs.IntraPictures.{output}
 use Rattle.hv_serial.specs.declared.answers.Totals.{Totals}
 use Rattle.hv_serial.specs.declared.answers.EncodeError.{EncodeError}
 use Rattle.hv_serial.specs.declared.answers.EncodeError.TheVariants.{ReadFault, ShortPicture, WriteFault, NoMemory, TooLong}
@@ -20,9 +19,10 @@ use Rattle.hv_serial.specs.Outcomes.{pictures_in, pictures_read, rest_in, whole_
 use Rattle.hv_serial.specs.Endings.{Ends, EndsOk, EndsReadFault, EndsShort, EndsTooLong, EndsWriteFault, EndsNoMemory}
 use Rattle.hv_serial.specs.Steps.{Took, GroupRead, GroupFault, GroupShort, GroupTooMany, EndsGroup, PutsPartOfGroup, EndsWriting}
 use Rattle.hv_serial.proofs.GrowthLemmas.{PutsPart-more}
-use Rattle.hv_serial.proofs.StreamLemmas.{IsBehind, front_length, last_length, stream_output, stream_more}
+use Rattle.hv_serial.proofs.StreamLemmas.{output_nothing}
+use Rattle.hv_serial.proofs.PictureLemmas.{taken_pictures}
 use Rattle.hv_serial.proofs.ReadingLemmas.{one_told, all_dropped, next_place, places, took_more, picture_number, rest_after, number_read, whole_is, whole_same}
-use Rattle.hv_serial.proofs.ProgressLemmas.{reading, writing, IsAt, Grows-none, some_bytes, wrote_any, took_group, all_taken}
+use Rattle.hv_serial.proofs.ProgressLemmas.{reading, writing, IsAt, Grows-none, some_bytes, took_group, all_taken, next_group, they_are_padded, group_output}
 
 -- ---- the sink refused at the end
 
@@ -70,9 +70,9 @@ end_fault cfg t d old mid new before now last h same rises = record {
 
 -- ---- before the first picture
 
-pub start_no_memory : (cfg : Settings) → IsBuilt cfg → cfg.emit ≡ Stream → (d : Drawn) (w : Put) →
-    w.new ≡ w.old → EndsNoMemory cfg d w
-start_no_memory cfg b emit d w same =
+pub start_no_memory : (cfg : Settings) → IsBuilt cfg → (d : Drawn) (w : Put) → w.new ≡ w.old →
+    EndsNoMemory cfg d w
+start_no_memory cfg b d w same =
     let g : ℕ = cfg.group in
     let none : whole_groups cfg 0 ≡ 0 =
     ap (whole_groups cfg) (sym (zero-mul g)) ∙ whole_same cfg 0 b.valid.group_least ∙ zero-mul g in
@@ -82,7 +82,7 @@ start_no_memory cfg b emit d w same =
         groups = record { few = omega arith; whole = inl (sym none) };
         wrote =
             subst (λ (x : Option (List ℕ)). Grows w.old x (output cfg [])) (sym same)
-            (subst (λ (x : List ℕ). Grows w.old w.old x) (sym (stream_output cfg emit []))
+            (subst (λ (x : List ℕ). Grows w.old w.old x) (sym (output_nothing cfg))
             (Grows-none w.old));
       };
     }
@@ -99,8 +99,8 @@ fewer_or_full zero (suc g) few = inl (omega arith)
 fewer_or_full (suc m) zero few = absurd (omega (arith, few))
 fewer_or_full (suc m) (suc g) few = next_or m g (fewer_or_full m g (omega (arith, few)))
 
-module _ (cfg : Settings) (b : IsBuilt cfg) (emit : cfg.emit ≡ Stream)
-    (before mid now old midw : Option (List ℕ)) (rb rm rn wb wm : ℕ) (t : Totals)
+module _ (cfg : Settings) (b : IsBuilt cfg) (before mid now old midw : Option (List ℕ))
+    (rb rm rn wb wm : ℕ) (t : Totals)
     (a : IsAt cfg (reading before mid rb rm) (writing old midw wb wm) t) where
   abbrev p : ℕ
   p = picture_bytes cfg
@@ -117,6 +117,15 @@ module _ (cfg : Settings) (b : IsBuilt cfg) (emit : cfg.emit ≡ Stream)
       subst (λ (n : ℕ). Took n bytes now) (omega (arith, places k count p))
       (took_more (k * p) (count * p + part) bytes mid now h (then (drop (k * p) bytes) h.left))
 
+  -- the first j of the pictures read are the first j of the input
+  front_read : (j count part : ℕ) → part < p → (bytes left : List ℕ) → now ≡ Some left →
+      Took ((j + count) * p + part) bytes now →
+      take j (pictures_read cfg bytes left) ≡ take j (pictures_in cfg bytes)
+  front_read j count part few bytes left f took =
+      ap (take j)
+      (taken_pictures cfg (some_bytes cfg b) (j + count) part bytes left now took few f) ∙
+      take-take j (j + count) (pictures_in cfg bytes) (omega arith)
+
   -- the groups that were read whole before it are written
   groups_written : (count part : ℕ) → count < cfg.group → part < p → (bytes left : List ℕ) →
       before ≡ Some bytes → now ≡ Some left → Took ((k + count) * p + part) bytes now →
@@ -128,13 +137,11 @@ module _ (cfg : Settings) (b : IsBuilt cfg) (emit : cfg.emit ≡ Stream)
       number_read cfg bytes left now (k + count) part took few f ∙
       ap (λ (n : ℕ). n + count) a.whole in
       let m : ℕ = whole_groups cfg (length v) in
-      let cut : m ≡ at = ap (whole_groups cfg) number ∙ whole_is cfg t.groups count room in
-      let long : length (take m v) ≡ k =
-      ap (λ (n : ℕ). length (take n v)) cut ∙ length-take-le at v (omega (arith, number)) ∙
-      sym a.whole in
-      subst (λ (x : List ℕ). Grows old midw x) (sym (stream_output cfg emit (take m v)))
-      (wrote_any cfg b (reading before mid rb rm) (writing old midw wb wm) t a.encoded bytes e
-      (take m v) long)
+      let cut : m ≡ k =
+      ap (whole_groups cfg) number ∙ whole_is cfg t.groups count room ∙ sym a.whole in
+      subst (λ (x : List Picture). Grows old midw (output cfg x))
+      (sym (ap (λ (n : ℕ). take n v) cut ∙ front_read k count part few bytes left f took))
+      (a.encoded.wrote bytes e)
 
   at_fault : GroupFault cfg (reading mid now rm rn) →
       EndsReadFault cfg (reading before now rb rn) (writing old midw wb wm)
@@ -223,9 +230,9 @@ module _ (cfg : Settings) (b : IsBuilt cfg) (emit : cfg.emit ≡ Stream)
         m = k;
         groups = record { few = omega (arith, number); whole = inl (sym whole) };
         wrote =
-            subst (λ (x : List ℕ). Grows old midw x) (sym (stream_output cfg emit (take k v)))
-            (wrote_any cfg b (reading before mid rb rm) (writing old midw wb wm) t a.encoded bytes
-            e (take k v) (length-take-le k v (omega (arith, number))));
+            subst (λ (x : List Picture). Grows old midw (output cfg x))
+            (sym (front_read k count 0 (some_bytes cfg b) bytes left f took))
+            (a.encoded.wrote bytes e);
       }
 
   at_no_memory : (new : Option (List ℕ)) (wn count : ℕ) → new ≡ midw →
@@ -250,21 +257,25 @@ module _ (cfg : Settings) (b : IsBuilt cfg) (emit : cfg.emit ≡ Stream)
   at_read_error TooLong r = at_too_many r
 
   -- m pictures behind the whole groups are one whole group more, or the last ones of the input
-  are_groups : (m : ℕ) → GroupRead cfg t.pictures m (reading mid now rm rn) →
+  are_groups : (padded : List Picture) →
+      GroupRead cfg t.pictures padded (reading mid now rm rn) →
       (bytes left : List ℕ) → before ≡ Some bytes → now ≡ Some left →
-      (m < cfg.group) ⊎ (m ≡ cfg.group) →
-      (k + m ≡ whole_groups cfg (k + m)) ⊎
-      ((left ≡ []) × (rest_in cfg bytes ≡ []) × (k + m ≡ length (pictures_in cfg bytes)))
-  are_groups m r bytes left e f (inr full) =
+      (length padded < cfg.group) ⊎ (length padded ≡ cfg.group) →
+      (k + length padded ≡ whole_groups cfg (k + length padded)) ⊎
+      ((left ≡ []) × (rest_in cfg bytes ≡ []) ×
+      (k + length padded ≡ length (pictures_in cfg bytes)))
+  are_groups padded r bytes left e f (inr full) =
+      let m : ℕ = length padded in
       let next : k + m ≡ (t.groups + 1) * cfg.group =
       omega (arith, a.whole, full, next_place t.groups cfg.group) in
       inl (
       next ∙ sym (whole_same cfg (t.groups + 1) b.valid.group_least) ∙
       sym (ap (whole_groups cfg) next)
       )
-  are_groups m r bytes left e f (inl fewer) =
+  are_groups padded r bytes left e f (inl fewer) =
+      let m : ℕ = length padded in
       let all : length bytes ≡ (k + m) * p =
-      all_taken cfg b before mid now old midw rb rm rn wb wm t a m fewer r bytes e in
+      all_taken cfg b before mid now old midw rb rm rn wb wm t a padded fewer r bytes e in
       let none : length bytes ≡ (k + m) * p + 0 = omega (arith, all) in
       let took : Took ((k + m) * p) bytes now =
       took_group cfg b before mid now old midw rb rm rn wb wm t a m bytes e r.read in
@@ -275,57 +286,57 @@ module _ (cfg : Settings) (b : IsBuilt cfg) (emit : cfg.emit ≡ Stream)
         sym (picture_number cfg bytes (k + m) 0 none (some_bytes cfg b)),
       )
 
-  at_write_fault : (new : Option (List ℕ)) (wn m : ℕ) → 0 < m →
-      GroupRead cfg t.pictures m (reading mid now rm rn) →
-      PutsPartOfGroup cfg (nat_eq t.groups 0) m (writing midw new wm wn) →
+  at_write_fault : (new : Option (List ℕ)) (wn : ℕ) (padded : List Picture) →
+      0 < length padded → GroupRead cfg t.pictures padded (reading mid now rm rn) →
+      PutsPartOfGroup cfg (nat_eq t.groups 0) padded (writing midw new wm wn) →
       EndsWriteFault cfg (reading before now rb rn) (writing old new wb wn)
-  at_write_fault new wn m some r puts = record {
+  at_write_fault new wn padded some r puts = record {
     rises = subst (λ (j : ℕ). Rises j wn) a.encoded.no_faults.writing puts.rises;
     wrote = λ bytes left e f.
+        let m : ℕ = length padded in
         let v : List Picture = pictures_read cfg bytes left in
         let took : Took ((k + m) * p + 0) bytes now =
         took_part m 0 bytes e
         (λ rest told. subst (λ (n : ℕ). Took n rest now) (omega arith) (r.read rest told)) in
         let number : length v ≡ k + m =
         number_read cfg bytes left now (k + m) 0 took (some_bytes cfg b) f in
-        let w : List Picture = take (k + m) v in
-        let long : length w ≡ k + m = length-take-le (k + m) v (omega (arith, number)) in
-        let h : IsBehind cfg t.groups m w = record {
-          some = some;
-          few = r.room;
-          long = omega (arith, long, a.whole);
-        } in
+        let more : Took ((k + m + 0) * p + 0) bytes now =
+        subst (λ (n : ℕ). Took (n * p + 0) bytes now) (omega arith) took in
+        let seen : take (k + m) v ≡ take (k + m) (pictures_in cfg bytes) =
+        front_read (k + m) 0 0 (some_bytes cfg b) bytes left f more in
         record {
           m = k + m;
           groups = record {
             few = omega (arith, number);
-            whole = are_groups m r bytes left e f (fewer_or_full m cfg.group r.room);
+            whole = are_groups padded r bytes left e f (fewer_or_full m cfg.group r.room);
           };
           wrote =
               subst (λ (x : List ℕ). PutsPart old new x)
-              (sym (stream_output cfg emit w ∙ stream_more cfg t.groups m w h))
-              (PutsPart-more old midw new _ _
-              (wrote_any cfg b (reading before mid rb rm) (writing old midw wb wm) t a.encoded
-              bytes e _ (front_length cfg t.groups m w h ∙ sym a.whole))
-              (puts.wrote _ (last_length cfg t.groups m w h)));
+              (sym (ap (output cfg) seen ∙
+              group_output cfg b before mid now old midw rb rm rn wb wm t a padded some r bytes e))
+              (PutsPart-more old midw new _ _ (a.encoded.wrote bytes e)
+              (puts.wrote (next_group cfg b before mid now old midw rb rm rn wb wm t a bytes padded)
+              (they_are_padded cfg b before mid now old midw rb rm rn wb wm t a padded r bytes
+              e)));
         };
   }
 
   -- the writing of the next group ended the encoding
-  pub at_write_error : (new : Option (List ℕ)) (wn m : ℕ) → 0 < m →
-      GroupRead cfg t.pictures m (reading mid now rm rn) → (error : EncodeError) →
-      EndsWriting cfg (nat_eq t.groups 0) m (writing midw new wm wn) (Err error) →
+  pub at_write_error : (new : Option (List ℕ)) (wn : ℕ) (padded : List Picture) →
+      0 < length padded → GroupRead cfg t.pictures padded (reading mid now rm rn) →
+      (error : EncodeError) →
+      EndsWriting cfg (nat_eq t.groups 0) padded (writing midw new wm wn) (Err error) →
       Ends cfg (reading before now rb rn) (writing old new wb wn) (Err error)
-  at_write_error new wn m some r ReadFault h = absurd h
-  at_write_error new wn m some r (ShortPicture have) h = absurd h
-  at_write_error new wn m some r WriteFault h = at_write_fault new wn m some r h
-  at_write_error new wn m some r NoMemory h = at_no_memory new wn m h r.read
-  at_write_error new wn m some r TooLong h = absurd h
+  at_write_error new wn padded some r ReadFault h = absurd h
+  at_write_error new wn padded some r (ShortPicture have) h = absurd h
+  at_write_error new wn padded some r WriteFault h = at_write_fault new wn padded some r h
+  at_write_error new wn padded some r NoMemory h = at_no_memory new wn (length padded) h r.read
+  at_write_error new wn padded some r TooLong h = absurd h
 
 -- the settings that a group was read with are those that it is written with
-pub writing_is : (cfg other : Settings) (first : Bool) (count : ℕ) (w : Put)
-    (r s : Result ℕ EncodeError) → other ≡ cfg → r ≡ s → EndsWriting other first count w r →
-    EndsWriting cfg first count w s
-writing_is cfg other first count w r s same is h =
-    subst (λ (c : Settings). EndsWriting c first count w s) same
-    (subst (λ (x : Result ℕ EncodeError). EndsWriting other first count w x) is h)
+pub writing_is : (cfg other : Settings) (first : Bool) (padded : List Picture) (w : Put)
+    (r s : Result ℕ EncodeError) → other ≡ cfg → r ≡ s → EndsWriting other first padded w r →
+    EndsWriting cfg first padded w s
+writing_is cfg other first padded w r s same is h =
+    subst (λ (c : Settings). EndsWriting c first padded w s) same
+    (subst (λ (x : Result ℕ EncodeError). EndsWriting other first padded w x) is h)

@@ -2,7 +2,11 @@ mod MoveLemmas
 pub mod GrowthLemmas
 mod StreamLemmas
 pub mod ReadingLemmas
+mod PictureLemmas
 pub mod ProgressLemmas
 mod StepLemmas
 mod UnitLemmas
+mod OutputLemmas
+mod GreyLemmas
+mod BlankGroupLemmas
 pub mod EndLemmas

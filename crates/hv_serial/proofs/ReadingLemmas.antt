@@ -42,7 +42,7 @@ took_more n m bytes mid now h then = record {
 -- ---- how many pictures were taken
 
 -- of n bytes, which are k pictures and a part of one
-quotient : (n k p r : ℕ) → n ≡ k * p + r → r < p → n / p ≡ k
+pub quotient : (n k p r : ℕ) → n ≡ k * p + r → r < p → n / p ≡ k
 quotient n k p r e few = ap (λ (m : ℕ). m / p) e ∙ div-mul-add k p r few
 
 pub picture_number : (cfg : Settings) (bytes : List ℕ) (k r : ℕ) →
@@ -69,7 +69,7 @@ rest_after cfg bytes k r e few =
     (quotient (length bytes) k (picture_bytes cfg) r e few)
 
 -- the bytes by which what is left fell
-read_front : (bytes : List ℕ) (n : ℕ) → n ≤ length bytes →
+pub read_front : (bytes : List ℕ) (n : ℕ) → n ≤ length bytes →
     take (length bytes - length (drop n bytes)) bytes ≡ take n bytes
 read_front bytes n h =
     let e : length bytes - length (drop n bytes) ≡ n = omega (arith, length-drop n bytes) in

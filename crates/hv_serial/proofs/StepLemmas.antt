@@ -1,7 +1,9 @@
 -- The reading of a group, picture by picture.
-use Rattle.std.proofs.Common.{◌≡◌, ℕ, ◌+◌, ◌*◌, ◌<◌, ◌≤◌, List, [], ◌∷◌, length, drop, refl, sym, ap, subst, ◌∙◌, arith, length-append, length-drop, zero-mul}
+use Rattle.std.proofs.Common.{◌≡◌, ℕ, ◌+◌, ◌*◌, ◌<◌, ◌≤◌, List, [], ◌∷◌, ◌++◌, length, map, take, drop, refl, sym, ap, ap₂, subst, ◌∙◌, arith, length-append, length-drop, zero-mul}
 use Rattle.std.specs.Prelude.{Option, Some, Bool, Result, Err}
+use Rattle.std.proofs.lemmas.List.{map-append, take_all}
 use Rattle.hv_types.specs.declared.settings.Settings.{Settings}
+use Rattle.hv_types.specs.declared.picture.Picture.{Picture}
 use Rattle.hv_types.specs.Configuration.{most_pictures, picture_bytes}
 use Rattle.hv_types.specs.GroupInput.{GroupInput, with_picture}
 use Rattle.hv_types.specs.Video.{picture_of, pad}
@@ -9,10 +11,12 @@ use Rattle.hv_types.specs.Outside.{Fills, Rises}
 use Rattle.hv_serial.specs.declared.answers.EncodeError.{EncodeError}
 use Rattle.hv_serial.specs.declared.answers.EncodeError.TheVariants.{ReadFault, ShortPicture, WriteFault, NoMemory, TooLong}
 use Rattle.hv_serial.specs.Transfers.{Drawn, EndsAfter, StopsShort}
+use Rattle.hv_serial.specs.Outcomes.{pictures_in}
 use Rattle.hv_serial.specs.Endings.{Told}
 use Rattle.hv_serial.specs.Steps.{Took, TookAll, PictureRead, NoPicture, PictureFault, PictureShort, PictureTooMany, EndsPicture, GroupIsRead, GroupNoMemory, EndsGroup}
 use Rattle.hv_serial.proofs.ProgressLemmas.{reading}
 use Rattle.hv_serial.proofs.ReadingLemmas.{next_place, took_more}
+use Rattle.hv_serial.proofs.PictureLemmas.{one_picture_more}
 
 -- ---- a picture, from what filled the buffer
 
@@ -52,14 +56,17 @@ picture_short cfg d buffer number n room below not_none few size read end = reco
 pub picture_whole : (cfg : Settings) (d : Drawn) (buffer : List ℕ) (number n room : ℕ) →
     number < most_pictures → n ≤ room → room ≤ n → room ≡ picture_bytes cfg →
     ((bytes : List ℕ) → d.before ≡ Some bytes → Fills bytes d.now buffer n) →
-    d.faults_now ≡ d.faults_before → PictureRead cfg number d
-picture_whole cfg d buffer number n room below most least size read no_fault =
+    d.faults_now ≡ d.faults_before → room ≡ length buffer → PictureRead cfg number buffer d
+picture_whole cfg d buffer number n room below most least size read no_fault long =
     let all : n ≡ picture_bytes cfg = omega (arith, most, least, size) in
     record {
       few = below;
       read = λ bytes e.
           subst (λ (k : ℕ). Took k bytes d.now) all
           (record { there = (read bytes e).there; left = (read bytes e).left });
+      bytes = λ bytes e.
+          sym (take_all n buffer (omega (arith, least, long))) ∙ (read bytes e).same ∙
+          ap (λ (k : ℕ). take k bytes) all;
       no_fault = no_fault;
     }
 
@@ -91,12 +98,12 @@ picture_too_many d buffer n not_none few read =
           (record { there = (read bytes e).there; left = (read bytes e).left });
     }
 
-pub picture_at : (cfg : Settings) (number same : ℕ) (d : Drawn) (r : Result Bool EncodeError)
-    (s : Result Bool EncodeError) → number ≡ same → r ≡ s →
-    EndsPicture cfg number d r → EndsPicture cfg same d s
-picture_at cfg number same d r s at e h =
-    subst (λ (n : ℕ). EndsPicture cfg n d s) at
-    (subst (λ (x : Result Bool EncodeError). EndsPicture cfg number d x) e h)
+pub picture_at : (cfg : Settings) (number same : ℕ) (buffer : List ℕ) (d : Drawn)
+    (r s : Result Bool EncodeError) → number ≡ same → r ≡ s →
+    EndsPicture cfg number buffer d r → EndsPicture cfg same buffer d s
+picture_at cfg number same buffer d r s at e h =
+    subst (λ (n : ℕ). EndsPicture cfg n buffer d s) at
+    (subst (λ (x : Result Bool EncodeError). EndsPicture cfg number buffer d x) e h)
 
 -- ---- a group
 
@@ -107,9 +114,12 @@ pub record PartRead (cfg : Settings) (before count : ℕ) (input : GroupInput) (
   pub long : length input.pictures ≡ count
   pub few : before + count ≤ most_pictures
   pub read : Told d (λ bytes. Took (count * picture_bytes cfg) bytes d.now)
+  pub pictures :
+      Told d (λ bytes. input.pictures ≡ map pad (take count (pictures_in cfg bytes)))
   pub no_fault : d.faults_now ≡ d.faults_before
 
-pub part_start : (cfg : Settings) (before : ℕ) (input : GroupInput) (now : Option (List ℕ)) (r : ℕ) →
+pub part_start : (cfg : Settings) (before : ℕ) (input : GroupInput) (now : Option (List ℕ))
+    (r : ℕ) →
     before ≤ most_pictures → input ≡ record { config = cfg; pictures = [] } →
     PartRead cfg before 0 input (reading now now r r)
 part_start cfg before input now r few is = record {
@@ -120,6 +130,7 @@ part_start cfg before input now r few is = record {
     there = omega (arith, zero-mul (picture_bytes cfg));
     left = e ∙ ap (λ (n : ℕ). Some (drop n bytes)) (sym (zero-mul (picture_bytes cfg)));
   };
+  pictures = λ bytes e. ap (λ i. i.pictures) is;
   no_fault = refl;
 }
 
@@ -135,9 +146,9 @@ module _ (cfg : Settings) (before count : ℕ) (input : GroupInput)
       let h = a.read bytes e in
       took_more (count * p) n bytes mid now h (then (drop (count * p) bytes) h.left)
 
-  took_next : PictureRead cfg (before + count) (reading mid now rm rn) → (bytes : List ℕ) →
-      start ≡ Some bytes → Took ((count + 1) * p) bytes now
-  took_next r bytes e =
+  took_next : (raw : List ℕ) → PictureRead cfg (before + count) raw (reading mid now rm rn) →
+      (bytes : List ℕ) → start ≡ Some bytes → Took ((count + 1) * p) bytes now
+  took_next raw r bytes e =
       subst (λ (n : ℕ). Took n bytes now) (sym (next_place count p)) (took_behind p bytes e r.read)
 
   took_all_behind : (n : ℕ) (bytes : List ℕ) → start ≡ Some bytes →
@@ -155,11 +166,32 @@ module _ (cfg : Settings) (before count : ℕ) (input : GroupInput)
         left = took.left;
       }
 
+  -- the padded pictures, with that of the buffer
+  pictures_next : 0 < p → (raw : List ℕ) →
+      PictureRead cfg (before + count) raw (reading mid now rm rn) → (bytes : List ℕ) →
+      start ≡ Some bytes →
+      input.pictures ++ pad (picture_of input.config.width input.config.height raw) ∷ [] ≡
+      map pad (take (count + 1) (pictures_in cfg bytes))
+  pictures_next some raw r bytes e =
+      let h = a.read bytes e in
+      let took = took_next raw r bytes e in
+      let front : List Picture = take count (pictures_in cfg bytes) in
+      let last : Picture = picture_of cfg.width cfg.height (take p (drop (count * p) bytes)) in
+      let seen : pad (picture_of input.config.width input.config.height raw) ≡ pad last =
+      ap (λ (s : Settings). pad (picture_of s.width s.height raw)) a.config ∙
+      ap (λ (x : List ℕ). pad (picture_of cfg.width cfg.height x))
+      (r.bytes (drop (count * p) bytes) h.left) in
+      ap₂ (λ (xs : List Picture) (x : Picture). xs ++ x ∷ []) (a.pictures bytes e) seen ∙
+      sym (map-append pad front (last ∷ [])) ∙
+      ap (map pad)
+      (sym (one_picture_more cfg some count bytes
+      (omega (arith, took.there, next_place count p))))
+
   -- one picture more
-  pub part_next : (next : GroupInput) (raw : List ℕ) → next ≡ with_picture input raw →
-      PictureRead cfg (before + count) (reading mid now rm rn) →
+  pub part_next : 0 < p → (next : GroupInput) (raw : List ℕ) → next ≡ with_picture input raw →
+      PictureRead cfg (before + count) raw (reading mid now rm rn) →
       PartRead cfg before (count + 1) next (reading start now rs rn)
-  part_next next raw is r =
+  part_next some next raw is r =
       let picture =
       pad (picture_of input.config.width input.config.height raw) in
       record {
@@ -168,7 +200,9 @@ module _ (cfg : Settings) (before count : ℕ) (input : GroupInput)
             ap (λ i. length i.pictures) is ∙ length-append input.pictures (picture ∷ []) ∙
             ap (λ (n : ℕ). n + 1) a.long;
         few = omega (arith, r.few);
-        read = took_next r;
+        read = took_next raw r;
+        pictures = λ bytes e.
+            ap (λ i. i.pictures) is ∙ pictures_next some raw r bytes e;
         no_fault = r.no_fault ∙ a.no_fault;
       }
 
@@ -190,16 +224,19 @@ module _ (cfg : Settings) (before count : ℕ) (input : GroupInput)
                 there = omega (arith, (took bytes e).all);
                 left = (took bytes e).left;
               });
+          pictures = λ bytes e.
+              a.pictures bytes e ∙
+              ap (λ (n : ℕ). map pad (take n (pictures_in cfg bytes))) (sym a.long);
           all = λ fewer bytes e. (took bytes e).all ∙ same;
           no_fault = r.no_fault ∙ a.no_fault;
         };
       }
 
   -- the reading of a picture ended that of the group
-  pub group_error : count < cfg.group → (error : EncodeError) →
-      EndsPicture cfg (before + count) (reading mid now rm rn) (Err error) →
+  pub group_error : count < cfg.group → (raw : List ℕ) (error : EncodeError) →
+      EndsPicture cfg (before + count) raw (reading mid now rm rn) (Err error) →
       EndsGroup cfg before (reading start now rs rn) (Err error)
-  group_error room ReadFault r = record {
+  group_error room raw ReadFault r = record {
     count = count;
     room = room;
     rises = subst (λ (j : ℕ). Rises j rn) a.no_fault r.rises;
@@ -214,7 +251,7 @@ module _ (cfg : Settings) (before count : ℕ) (input : GroupInput)
               (record { there = s.there; left = s.left });
         };
   }
-  group_error room (ShortPicture have) r = record {
+  group_error room raw (ShortPicture have) r = record {
     count = count;
     room = room;
     number = r.room;
@@ -222,9 +259,9 @@ module _ (cfg : Settings) (before count : ℕ) (input : GroupInput)
     few = r.few;
     read = λ bytes e. took_all_behind have bytes e r.read;
   }
-  group_error room WriteFault r = absurd r
-  group_error room NoMemory r = absurd r
-  group_error room TooLong r = record {
+  group_error room raw WriteFault r = absurd r
+  group_error room raw NoMemory r = absurd r
+  group_error room raw TooLong r = record {
     count = count;
     room = room;
     number = r.most;
@@ -232,9 +269,10 @@ module _ (cfg : Settings) (before count : ℕ) (input : GroupInput)
   }
 
   -- no memory for one more
-  pub group_no_memory : PictureRead cfg (before + count) (reading mid now rm rn) →
+  pub group_no_memory : (raw : List ℕ) →
+      PictureRead cfg (before + count) raw (reading mid now rm rn) →
       GroupNoMemory cfg (reading start now rs rn)
-  group_no_memory r = record { count = count + 1; read = took_next r }
+  group_no_memory raw r = record { count = count + 1; read = took_next raw r }
 
 -- all pictures that a group has
 pub group_full : (cfg : Settings) (before count : ℕ) (input : GroupInput) (d : Drawn) →
@@ -246,6 +284,9 @@ group_full cfg before count input d a full = record {
     few = omega (arith, a.few, a.long);
     read = λ bytes e.
         subst (λ (n : ℕ). Took (n * picture_bytes cfg) bytes d.now) (sym a.long) (a.read bytes e);
+    pictures = λ bytes e.
+        a.pictures bytes e ∙
+        ap (λ (n : ℕ). map pad (take n (pictures_in cfg bytes))) (sym a.long);
     all = λ fewer. absurd (omega (arith, fewer, a.long, full));
     no_fault = a.no_fault;
   };

@@ -1,18 +1,17 @@
--- The units of a group, one after another.
+-- The units of a group in which nothing is chosen, one after another.
 use Rattle.std.proofs.Common.{◌≡◌, ℕ, suc, ◌+◌, ◌<◌, List, [], ◌∷◌, ◌++◌, length, take, map, slice_index_or, sym, ap, ◌∙◌, arith, append-nil, ◌≤◌}
 use Rattle.std.specs.Prelude.{flat_map}
 use Rattle.std.proofs.lemmas.List.{map-append, get_or-map, length-map, take_all}
 use Rattle.std.proofs.lemmas.Grind.{flat_map-append}
 use Rattle.std.proofs.Math.Seq.{take-suc}
 use Rattle.hv_types.specs.declared.settings.Settings.{Settings}
-use Rattle.hv_types.specs.declared.picture.Picture.{Picture}
 use Rattle.hv_group_model.specs.Structure.{Coded, coded, coding, picture_at}
-use Rattle.hv_model.specs.Encoding.{picture_unit, encode_group}
+use Rattle.hv_serial.specs.BlankGroups.{blank_unit, blank_units_of}
 
 after_one : (n : ℕ) → n + 1 ≡ suc n
 after_one n = omega arith
 
--- the first units, and one more
+-- the first units, and one more; or pictures
 pub units_more : {V : Type 0} (inside : List V) (items : V → List ℕ) (units : List (List ℕ))
     (i : ℕ) (unit : V) → map items inside ≡ units → i < length inside →
     unit ≡ slice_index_or inside i unit →
@@ -32,26 +31,24 @@ units_more inside items units i unit seen below is =
 -- the units of the first pictures in coding order, and one more
 pub coded_more : (cfg : Settings) (n count levels at : ℕ) (unit : List ℕ) →
     at < length (coding n cfg.levels) → count ≡ n → levels ≡ cfg.levels →
-    unit ≡ picture_unit cfg n (picture_at count levels at) →
-    map (λ c. picture_unit cfg n c.picture) (take at (coding n cfg.levels)) ++ unit ∷ [] ≡
-    map (λ c. picture_unit cfg n c.picture) (take (at + 1) (coding n cfg.levels))
+    unit ≡ blank_unit cfg n (picture_at count levels at) →
+    map (λ c. blank_unit cfg n c.picture) (take at (coding n cfg.levels)) ++ unit ∷ [] ≡
+    map (λ c. blank_unit cfg n c.picture) (take (at + 1) (coding n cfg.levels))
 coded_more cfg n count levels at unit below same_count same_levels is =
     let order : List Coded = coding n cfg.levels in
     let d : Coded = coded 0 0 [] in
-    let f : Coded → List ℕ = λ c. picture_unit cfg n c.picture in
+    let f : Coded → List ℕ = λ c. blank_unit cfg n c.picture in
     let next : unit ≡ f (slice_index_or order at d) =
-    is ∙ ap (λ m. picture_unit cfg n (picture_at m levels at)) same_count ∙
-    ap (λ m. picture_unit cfg n (picture_at n m at)) same_levels in
+    is ∙ ap (λ m. blank_unit cfg n (picture_at m levels at)) same_count ∙
+    ap (λ m. blank_unit cfg n (picture_at n m at)) same_levels in
     ap (λ u. map f (take at order) ++ u ∷ []) next ∙
     sym (map-append f (take at order) (slice_index_or order at d ∷ [])) ∙
     sym (ap (λ m. map f (take m order)) (after_one at) ∙ ap (map f) (take-suc order at d below))
 
 -- all of them
-pub all_coded : (cfg : Settings) (n at : ℕ) (units : List (List ℕ)) (pictures : List Picture) →
-    units ≡ map (λ c. picture_unit cfg n c.picture) (take at (coding n cfg.levels)) →
-    length (coding n cfg.levels) ≤ at → length pictures ≡ n →
-    units ≡ (encode_group cfg pictures).units
-all_coded cfg n at units pictures is all long =
+pub all_coded : (cfg : Settings) (n at : ℕ) (units : List (List ℕ)) →
+    units ≡ map (λ c. blank_unit cfg n c.picture) (take at (coding n cfg.levels)) →
+    length (coding n cfg.levels) ≤ at → units ≡ blank_units_of cfg n
+all_coded cfg n at units is all =
     is ∙
-    ap (map (λ (c : Coded). picture_unit cfg n c.picture)) (take_all at (coding n cfg.levels) all) ∙
-    ap (λ m. map (λ c. picture_unit cfg m c.picture) (coding m cfg.levels)) (sym long)
+    ap (map (λ (c : Coded). blank_unit cfg n c.picture)) (take_all at (coding n cfg.levels) all)

@@ -3,7 +3,7 @@ use Rattle.std.specs.Prelude.{◌≡◌, ℕ, List, length, Some, Result, Ok, Er
 use Rattle.hv_types.specs.declared.settings.Settings.{Settings}
 use Rattle.hv_types.specs.Outside.{Rises}
 use Rattle.hv_types.specs.declared.picture.Picture.{Picture}
-use Rattle.hv_model.specs.Encoding.{output}
+use Rattle.hv_model.specs.IntraPictures.{output}
 use Rattle.hv_serial.specs.declared.answers.Totals.{Totals}
 use Rattle.hv_serial.specs.declared.answers.EncodeError.{EncodeError}
 use Rattle.hv_serial.specs.declared.answers.EncodeError.TheVariants.{ReadFault, ShortPicture, WriteFault, NoMemory, TooLong}

@@ -2,3 +2,4 @@ pub mod Transfers
 pub mod Outcomes
 pub mod Endings
 pub mod Steps
+pub mod BlankGroups

@@ -1,7 +1,6 @@
 //! The encoding of a video, group by group.
 
 ghost use Rattle.std.specs.Prelude.{◌≡◌, ◌+◌, ◌<◌, ◌^◌};
-ghost use Rattle.hv_types.specs.declared.settings.Emit.TheVariants.{Stream};
 ghost use Rattle.hv_model.specs.Built.{IsBuilt};
 ghost use Rattle.hv_serial.specs.Transfers.{drawn, put};
 ghost use Rattle.hv_serial.specs.Endings.{Ends};
@@ -23,7 +22,6 @@ pub fn encode_video<S: Source, K: Sink>(
     out: &mut K,
 ) -> Result<Totals, EncodeError>
     requires built { IsBuilt config.now }
-    requires emit { config.now.emit ≡ Stream }
     ensures { Ends config.now (drawn S.left S.faults source.old source.new)
         (put K.written K.faults out.old out.new) result }
 {
@@ -43,7 +41,6 @@ fn encode_groups<S: Source, K: Sink>(
     out: &mut K,
 ) -> Result<Totals, EncodeError>
     requires built { IsBuilt config.now }
-    requires emit { config.now.emit ≡ Stream }
     ensures { Ends config.now (drawn S.left S.faults source.old source.new)
         (put K.written K.faults out.old out.new) result }
 {

@@ -3,6 +3,7 @@
 
 mod answers;
 mod encode;
+mod group;
 mod parameters;
 mod reading;
 #[cfg(test)]
@@ -12,5 +13,5 @@ mod writing;
 
 pub use answers::{EncodeError, Totals};
 pub use encode::encode_video;
+pub use group::encode_group_serial;
 pub use transfer::write_all;
-pub use writing::encode_group_serial;

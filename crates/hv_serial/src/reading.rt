@@ -1,6 +1,6 @@
 //! The reading of a group of pictures.
 
-ghost use Rattle.std.specs.Prelude.{◌≡◌, ◌≤◌, length};
+ghost use Rattle.std.specs.Prelude.{◌≡◌, ◌≤◌, ℕ, List, length};
 ghost use Rattle.hv_types.specs.Configuration.{most_pictures, picture_bytes};
 ghost use Rattle.hv_model.specs.Built.{IsBuilt};
 ghost use Rattle.hv_serial.specs.Transfers.{drawn};
@@ -54,7 +54,8 @@ fn read_picture<S: Source>(
     requires built { IsBuilt config.now }
     requires number { number ≤ most_pictures }
     requires room { length raw.old ≡ picture_bytes config.now }
-    ensures { EndsPicture config.now number (drawn S.left S.faults source.old source.new) result }
+    ensures { EndsPicture config.now number raw.new (drawn S.left S.faults source.old source.new)
+        result }
 {
     if number == MOST_PICTURES {
         return read_end(config, source);
@@ -70,8 +71,8 @@ fn read_picture<S: Source>(
 /// Asks for one byte behind the last picture that a video may have.
 fn read_end<S: Source>(config: &Config, source: &mut S) -> Result<bool, EncodeError>
     requires built { IsBuilt config.now }
-    ensures { EndsPicture config.now most_pictures (drawn S.left S.faults source.old source.new)
-        result }
+    ensures { (raw : List ℕ) → EndsPicture config.now most_pictures raw
+        (drawn S.left S.faults source.old source.new) result }
 {
     let mut byte = [0u8; 1];
     match fill(source, &mut byte) {

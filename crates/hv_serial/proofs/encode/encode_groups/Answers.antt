@@ -9,21 +9,21 @@ use Rattle.hv_serial.proofs.encode.encode_groups.Goals as goal
 
 pub returns-in-Err : goal.returns-in-Err
 returns-in-Err g c =
-    at_read_error _ c.requires.built c.requires.emit _ _ _ _ _ _ _ _ _ _ _ c.groups.invariant.0
+    at_read_error _ c.requires.built _ _ _ _ _ _ _ _ _ _ _ c.groups.invariant.0
     c.in-Err.error (group_is _ _ _ _ (Err c.in-Err.error) c.in-Err.is c.read_group.ensures)
 
 pub returns-then-count-eq0 : goal.returns-then-count-eq0
 returns-then-count-eq0 g c =
     let read = group_is _ _ _ _ (Ok c.in-Ok-read_group.input) c.in-Ok-read_group.is
     c.read_group.ensures in
-    at_none _ c.requires.built _ _ _ _ _ _ _ _ _ _ _ c.groups.invariant.0 c.requires.emit _
+    at_none _ c.requires.built _ _ _ _ _ _ _ _ _ _ _ c.groups.invariant.0 _
     (omega (arith, c.if-count-eq0.true, c.count-count.ensures.value)) read.group
 
 pub returns-in-Err-write_group : goal.returns-in-Err-write_group
 returns-in-Err-write_group g c =
     let read = group_is _ _ _ _ (Ok c.in-Ok-read_group.input) c.in-Ok-read_group.is
     c.read_group.ensures in
-    at_write_error _ c.requires.built c.requires.emit _ _ _ _ _ _ _ _ _ _ _ c.groups.invariant.0
+    at_write_error _ c.requires.built _ _ _ _ _ _ _ _ _ _ _ c.groups.invariant.0
     _ _ _ (omega (arith, c.if-count-eq0.false, c.count-count.ensures.value)) read.group
     c.in-Err-write_group.error
     (writing_is _ _ _ _ _ _ (Err c.in-Err-write_group.error) read.config c.in-Err-write_group.is
@@ -58,7 +58,7 @@ returns-then-count-settings g c =
     c.read_group.ensures in
     let puts = writing_is _ _ _ _ _ _ (Ok c.in-Ok-write_group.bytes) read.config
     c.in-Ok-write_group.is c.write_group.ensures in
-    at_last _ c.requires.built _ _ _ _ _ _ _ _ _ _ _ c.groups.invariant.0 c.requires.emit _ _ _
+    at_last _ c.requires.built _ _ _ _ _ _ _ _ _ _ _ c.groups.invariant.0 _ _ _
     c.in-Ok-write_group.bytes _
     (omega (arith, c.if-count-eq0.false, c.count-count.ensures.value))
     (omega (

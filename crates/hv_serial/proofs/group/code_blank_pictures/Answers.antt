@@ -2,9 +2,9 @@
 use Rattle.std.proofs.Common.{◌≡◌, [], ◌∷◌, ◌++◌, length, ap, ◌∙◌, arith}
 use Rattle.hv_decision.proofs.EachStructureLemmas.{length-coding}
 use Rattle.hv_group_model.specs.Structure.{coding}
-use Rattle.hv_model.specs.Encoding.{picture_unit}
+use Rattle.hv_serial.specs.BlankGroups.{blank_unit}
 use Rattle.hv_serial.proofs.UnitLemmas.{coded_more, all_coded}
-use Rattle.hv_serial.proofs.writing.encode_group_serial.Goals as goal
+use Rattle.hv_serial.proofs.group.code_blank_pictures.Goals as goal
 
 pub loop-place-preserved : goal.loop-place-preserved
 loop-place-preserved c =
@@ -14,7 +14,7 @@ loop-place-preserved c =
     let long : length (coding n cfg.levels) ≡ n =
     length-coding n cfg.levels (omega (arith, group.some))
     (omega (arith, group.count, c.count-place-end.ensures.value, c.count-place-end.ensures.most))
-    c.requires.built.valid.levels in (
+    c.requires.valid.levels in (
       ap (λ o. o.slices) c.in_ok-push_slice.ensures.ok ∙
           ap (λ units. units ++ c.in_ok-unit.unit.items ∷ []) c.loop-place.invariant.0 ∙
           coded_more cfg n group.structure.count group.structure.levels c.loop-place.place
@@ -27,20 +27,20 @@ loop-place-preserved c =
             group.count,
           ))
           group.count group.levels
-          (c.in_ok-unit.ensures ∙ ap (λ k. picture_unit cfg n k) c.order.ensures.value),
+          (c.in_ok-unit.ensures ∙ ap (λ k. blank_unit cfg n k) c.order.ensures.value),
       ap (λ o. o.shown) c.in_ok-push_slice.ensures.ok ∙ c.loop-place.invariant.1,
     )
 
 pub returns-clause-slices : goal.returns-clause-slices
-returns-clause-slices c pictures same =
+returns-clause-slices c =
     let group = c.args.group.now in
     let cfg = group.input.config in
     let n = length group.input.pictures in
     let long : length (coding n cfg.levels) ≡ n =
     length-coding n cfg.levels (omega (arith, group.some))
     (omega (arith, group.count, c.count-place-end.ensures.value, c.count-place-end.ensures.most))
-    c.requires.built.valid.levels in
-    all_coded cfg n c.loop-place.place c.loop-place.output.slices pictures c.loop-place.invariant.0
+    c.requires.valid.levels in
+    all_coded cfg n c.loop-place.place c.loop-place.output.slices c.loop-place.invariant.0
     (omega (
       arith,
       long,
@@ -48,4 +48,3 @@ returns-clause-slices c pictures same =
       c.count-place-end.ensures.value,
       group.count,
     ))
-    same

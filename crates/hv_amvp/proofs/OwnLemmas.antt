@@ -8,9 +8,9 @@ use Rattle.std.proofs.lemmas.Bool.Decides.{nat_tests}
 use Rattle.std.proofs.lemmas.Option.{slice_get-get_or, slice_get-map}
 use Rattle.hv_plan.specs.declared.prediction.Unit.{Unit}
 use Rattle.hv_block.specs.Plans.{opening_unit}
-use Rattle.hv_unit_model.specs.Sites.{Site, ctb_column, ctb_row, address_of, column_of, row_of, is_outside}
-use Rattle.hv_unit_model.specs.EarlierUnits.{Square, Unavailable}
-use Rattle.hv_unit_model.specs.Plans.{Plan, UnitsAround, square_or_none, square_around, is_in_picture, look_around}
+use Rattle.hv_tree_model.specs.Sites.{Site, ctb_column, ctb_row, address_of, column_of, row_of, is_outside}
+use Rattle.hv_tree_model.specs.EarlierUnits.{Square, Unavailable}
+use Rattle.hv_tree_model.specs.Plans.{Plan, UnitsAround, square_or_none, square_around, is_in_picture, look_around}
 use Rattle.hv_unit_model.proofs.GeometryLemmas.{address_of_place}
 use Rattle.hv_syntax.specs.Squares.{Shows}
 use Rattle.hv_vector_model.specs.Vectors.{unit_with_vector, plan_with_vectors, neighbourhood_of}

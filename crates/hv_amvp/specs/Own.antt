@@ -1,8 +1,8 @@
 -- The squares of a block that come before a node, by the units of its plan.
 use Rattle.std.specs.Prelude.{ℕ, List, map, take}
 use Rattle.hv_plan.specs.declared.prediction.Unit.{Unit}
-use Rattle.hv_unit_model.specs.EarlierUnits.{Square}
-use Rattle.hv_unit_model.specs.Plans.{coded_square}
+use Rattle.hv_tree_model.specs.EarlierUnits.{Square}
+use Rattle.hv_tree_model.specs.Plans.{coded_square}
 use Rattle.hv_vector_model.specs.Vectors.{unit_with_vector}
 
 abbrev pub square_with_vector : Unit → Square

@@ -1,8 +1,8 @@
 //! The candidates for the vector of a node of the coding quadtree.
 
 ghost use Rattle.std.specs.Prelude.{◌≡◌, ◌<◌, ◌≤◌, List};
-ghost use Rattle.hv_unit_model.specs.EarlierUnits.{Square};
-ghost use Rattle.hv_unit_model.specs.Plans.{look_around};
+ghost use Rattle.hv_tree_model.specs.EarlierUnits.{Square};
+ghost use Rattle.hv_tree_model.specs.Plans.{look_around};
 ghost use Rattle.hv_syntax.specs.Neighbours.{lists_of_plan, around_of};
 ghost use Rattle.hv_syntax.specs.Squares.{Shows};
 ghost use Rattle.hv_vector_model.specs.VectorPrediction.{mvpListL0};

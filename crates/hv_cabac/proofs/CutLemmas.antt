@@ -1,6 +1,6 @@
 -- What a settled register makes of the interval.
 use Rattle.std.proofs.Common.{◌≡◌, ℕ, ◌+◌, ◌*◌, ◌^◌, ◌<◌, ◌≤◌, Bool, cond, List, [], ap, ◌∙◌, arith, pow_pos, pow-add}
-use Rattle.hv_types.specs.Bins.{Bypass}
+use Rattle.hv_tables.specs.Bins.{Bypass}
 use Rattle.hv_entropy_model.specs.CodeWord.{part, cut, shift_of}
 use Rattle.hv_cabac.specs.Bytes.{total, HasRoom}
 use Rattle.hv_cabac.specs.Registers.{Cuts, PutsBits}

@@ -3,9 +3,9 @@ use Rattle.std.proofs.Common.{◌≡◌, ℕ, ◌-◌, ◌*◌, ◌^◌, Bool, t
 use Rattle.std.specs.Prelude.{slice_set}
 use Rattle.std.proofs.lemmas.Bool.{cond-true}
 use mathlib.Core.Bool.{beq}
-use Rattle.hv_types.specs.declared.bins.SliceKind.{SliceKind}
-use Rattle.hv_types.specs.declared.bins.Ctx.{Ctx}
-use Rattle.hv_types.specs.Bins.{Question, Context, Terminate, Bin}
+use Rattle.hv_tables.specs.declared.bins.SliceKind.{SliceKind}
+use Rattle.hv_tables.specs.declared.bins.Ctx.{Ctx}
+use Rattle.hv_tables.specs.Bins.{Question, Context, Terminate, Bin}
 use Rattle.hv_entropy_model.specs.Contexts.{ContextVariable, variable_at, with_variable, lps_width, next_variable, first_variables}
 use Rattle.hv_tables.specs.ContextTables.{place_of}
 use Rattle.hv_lemmas.specs.Booleans.{same}

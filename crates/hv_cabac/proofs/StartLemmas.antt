@@ -8,7 +8,7 @@ use Rattle.std.proofs.lemmas.Int.{unsigned_abs-mul}
 use Rattle.std.proofs.lemmas.List.{take_more, take_more_set, take_all, map-append}
 use lib.Signed.{shr_z}
 use Rattle.hv_lemmas.proofs.SignedLemmas.{passed, passed_small, size_of_sum}
-use Rattle.hv_types.specs.declared.bins.SliceKind.{SliceKind}
+use Rattle.hv_tables.specs.declared.bins.SliceKind.{SliceKind}
 use Rattle.hv_tables.specs.ContextTables.{values_of_kind}
 use Rattle.hv_entropy_model.specs.Contexts.{ContextVariable, first_variable, first_variables}
 use Rattle.hv_cabac.specs.Variables.{variable_of}

@@ -1,7 +1,7 @@
 -- What a counter stands for.
 use Rattle.std.specs.Prelude.{◌≡◌, ℕ, List, length, min}
-use Rattle.hv_types.specs.declared.bins.SliceKind.{SliceKind}
-use Rattle.hv_types.specs.Bins.{Bin}
+use Rattle.hv_tables.specs.declared.bins.SliceKind.{SliceKind}
+use Rattle.hv_tables.specs.Bins.{Bin}
 use Rattle.hv_cabac.specs.declared.counter.Counter.{Counter}
 
 -- it has the number of these bins, or the greatest that it can hold, 2 ^ 64 - 1

@@ -1,7 +1,7 @@
 -- What an encoder stands for.
 use Rattle.std.specs.Prelude.{◌≡◌, ℕ, false, List}
-use Rattle.hv_types.specs.declared.bins.SliceKind.{SliceKind}
-use Rattle.hv_types.specs.Bins.{Bin}
+use Rattle.hv_tables.specs.declared.bins.SliceKind.{SliceKind}
+use Rattle.hv_tables.specs.Bins.{Bin}
 use Rattle.hv_entropy_model.specs.Contexts.{ContextVariable, first_variables}
 use Rattle.hv_entropy_model.specs.CodeWord.{Interval, first_interval, reach, IsSound}
 use Rattle.hv_cabac.specs.Registers.{Holds}

@@ -1,10 +1,10 @@
 //! The counter of bins.
 
 ghost use Rattle.std.specs.Prelude.{◌≡◌, ◌+◌, ℕ, List, [], min, length};
-ghost use Rattle.hv_types.specs.declared.bins.SliceKind.{SliceKind};
-ghost use Rattle.hv_types.specs.Bins.{Bin};
+ghost use Rattle.hv_tables.specs.declared.bins.SliceKind.{SliceKind};
+ghost use Rattle.hv_tables.specs.Bins.{Bin};
 
-use hv_types::{BinSink, Ctx};
+use hv_tables::{BinSink, Ctx};
 
 /// Counts the bins that it takes, of a slice of any kind and quantiser, and stays at `u64::MAX`
 /// where there are more.

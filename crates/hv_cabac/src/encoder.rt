@@ -1,15 +1,15 @@
 //! The arithmetic encoder.
 
 ghost use Rattle.std.specs.Prelude.{◌≡◌, ℕ, List, [], IfOk};
-ghost use Rattle.hv_types.specs.declared.bins.SliceKind.{SliceKind as Kind};
-ghost use Rattle.hv_types.specs.Bins.{Bin};
+ghost use Rattle.hv_tables.specs.declared.bins.SliceKind.{SliceKind as Kind};
+ghost use Rattle.hv_tables.specs.Bins.{Bin};
 ghost use Rattle.hv_stream_model.specs.Bits.{bytes_of};
 ghost use Rattle.hv_entropy_model.specs.CodeWord.{IsEnded, word};
 
 use crate::register::Register;
 use crate::variables::{Variables, lps_width, state_after};
-use hv_tables::context_place;
-use hv_types::{BinSink, Ctx, NoMemory, SliceKind};
+use hv_tables::{BinSink, Ctx, SliceKind, context_place};
+use hv_types::NoMemory;
 use std::alloc::Global;
 
 /// The arithmetic encoder (9.3): it takes the bins of a slice and gives their code word, from which

@@ -11,4 +11,4 @@ mod variables;
 
 pub use counter::Counter;
 pub use encoder::Encoder;
-pub use hv_types::{BinSink, Ctx, CtxTable, SliceKind};
+pub use hv_tables::{BinSink, Ctx, CtxTable, SliceKind};

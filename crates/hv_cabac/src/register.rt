@@ -7,7 +7,7 @@ ghost use Rattle.std.specs.Prelude.{◌≡◌, ◌+◌, ◌-◌, ◌*◌, ◌/�
 ghost use Rattle.hv_stream_model.specs.Bits.{bytes_of};
 ghost use Rattle.hv_entropy_model.specs.Contexts.{ContextVariable};
 ghost use Rattle.hv_entropy_model.specs.CodeWord.{Interval, first_interval, shift_of, part, cut, cut_at, odd_from, word_at};
-ghost use Rattle.hv_types.specs.Bins.{Bypass};
+ghost use Rattle.hv_tables.specs.Bins.{Bypass};
 ghost use Rattle.hv_cabac.specs.Bytes.{number, total, HasRoom};
 
 use hv_types::NoMemory;

@@ -2,9 +2,9 @@
 //! bytes were computed elsewhere, in a few lines of another language, by whole numbers never cut.
 
 ghost use Rattle.std.specs.Prelude.{◌≡◌, [], ◌∷◌, true, false, IfOk};
-ghost use Rattle.hv_types.specs.Bins.{Puts, context_bin, bypass_bin, terminate_bin};
-ghost use Rattle.hv_types.specs.declared.bins.CtxTable.TheVariants.{CodedSub};
-ghost use Rattle.hv_types.specs.declared.bins.SliceKind.TheVariants.{P};
+ghost use Rattle.hv_tables.specs.Bins.{Puts, context_bin, bypass_bin, terminate_bin};
+ghost use Rattle.hv_tables.specs.declared.bins.CtxTable.TheVariants.{CodedSub};
+ghost use Rattle.hv_tables.specs.declared.bins.SliceKind.TheVariants.{P};
 ghost use Rattle.hv_stream_model.specs.Bits.{bytes_of};
 ghost use Rattle.hv_entropy_model.specs.CodeWord.{word};
 

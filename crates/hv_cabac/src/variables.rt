@@ -7,8 +7,7 @@ ghost use Rattle.hv_entropy_model.specs.Contexts.{first_variable, first_variable
 ghost use Rattle.hv_lemmas.specs.Clipping.{clip3};
 ghost use Rattle.hv_cabac.specs.Variables.{variable_of, slope_of, offset_of};
 
-use hv_tables::{CONTEXTS, init_values, next_state, range_tab_lps};
-use hv_types::SliceKind;
+use hv_tables::{CONTEXTS, SliceKind, init_values, next_state, range_tab_lps};
 
 /// How steeply a variable's start falls or rises with the quantiser (9.3.2.2).
 fn slope(init_value: u8) -> i32

@@ -5,8 +5,8 @@ use Rattle.hv_lemmas.specs.Lists.{tabulate}
 use Rattle.hv_types.specs.declared.picture.Picture.{Picture}
 use Rattle.hv_types.specs.Samples.{plane_of, sample_at}
 use Rattle.hv_plan.specs.declared.prediction.Pred.TheVariants.{Intra}
-use Rattle.hv_unit_model.specs.Sites.{address_of}
-use Rattle.hv_unit_model.specs.Plans.{Plan}
+use Rattle.hv_tree_model.specs.Sites.{address_of}
+use Rattle.hv_tree_model.specs.Plans.{Plan}
 use Rattle.hv_deblock_model.specs.EdgeStrength.{Squares}
 use Rattle.hv_deblock_model.specs.Deblocking.{Samples, pass, luma_filter, chroma_filter, both_passes, deblocked_picture}
 use Rattle.hv_deblock_model.specs.CodedSquares.{squares_of_plans}

@@ -3,8 +3,8 @@ use Rattle.std.proofs.Common.{◌≡◌, ℕ, Bool, true, false, refl, List, [],
 use Rattle.hv_plan.specs.declared.prediction.Mv.{Mv}
 use Rattle.hv_plan.specs.declared.prediction.Pred.{Pred}
 use Rattle.hv_plan.specs.declared.prediction.Pred.TheVariants.{Intra as IntraPred, Inter as InterPred}
-use Rattle.hv_unit_model.specs.Trees.{Motion, Intra, Inter, TransformUnit, Tree, Leaf, Split, Outside}
-use Rattle.hv_unit_model.specs.Sites.{address_of}
+use Rattle.hv_tree_model.specs.Trees.{Motion, Intra, Inter, TransformUnit, Tree, Leaf, Split, Outside}
+use Rattle.hv_tree_model.specs.Sites.{address_of}
 use Rattle.hv_deblock_model.specs.declared.coding.SquareCoding.{SquareCoding}
 use Rattle.hv_deblock_model.specs.EdgeStrength.{Squares}
 use Rattle.hv_deblock_model.specs.CodedSquares.{no_square}

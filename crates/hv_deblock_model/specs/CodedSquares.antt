@@ -2,9 +2,9 @@
 use Rattle.std.specs.Prelude.{ℕ, ◌+◌, ◌*◌, ◌/◌, ◌%◌, Bool, false, List, slice_get, Option, Some, None}
 use Rattle.hv_plan.specs.declared.prediction.Pred.TheVariants.{Intra}
 use Rattle.hv_plan.specs.declared.prediction.Unit.{Unit}
-use Rattle.hv_residual_model.specs.ResidualBins.{any_significant}
-use Rattle.hv_unit_model.specs.Sites.{blocks_over, address_of, squares}
-use Rattle.hv_unit_model.specs.Plans.{Plan, part}
+use Rattle.hv_plan.specs.Levels.{any_significant}
+use Rattle.hv_tree_model.specs.Sites.{blocks_over, address_of, squares}
+use Rattle.hv_tree_model.specs.Plans.{Plan, part}
 use Rattle.hv_deblock_model.specs.declared.coding.SquareCoding.{SquareCoding}
 use Rattle.hv_deblock_model.specs.EdgeStrength.{Squares, log2_transform_squares}
 

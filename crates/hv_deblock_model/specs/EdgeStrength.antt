@@ -4,7 +4,7 @@ use Rattle.std.specs.Prelude.{ℕ, ◌-◌, ◌%◌, ◌^◌, Bool, cond, not, n
 use Rattle.hv_plan.specs.declared.prediction.Mv.{Mv}
 use Rattle.hv_plan.specs.declared.prediction.Pred.{Pred}
 use Rattle.hv_plan.specs.declared.prediction.Pred.TheVariants.{Intra, Inter}
-use Rattle.hv_unit_model.specs.Trees.{log2TrafoSize, greatest_size}
+use Rattle.hv_tree_model.specs.Trees.{log2TrafoSize, greatest_size}
 use Rattle.hv_deblock_model.specs.declared.coding.SquareCoding.{SquareCoding}
 
 -- ---- where edges are

@@ -4,10 +4,10 @@ use Rattle.std.specs.Prelude.{ℕ, zero, suc, ◌+◌, ◌-◌, ◌*◌, ◌/◌
 use Rattle.hv_plan.specs.declared.prediction.Mv.{Mv}
 use Rattle.hv_plan.specs.declared.prediction.Pred.{Pred}
 use Rattle.hv_plan.specs.declared.prediction.Pred.TheVariants.{Intra as IntraPred, Inter as InterPred}
-use Rattle.hv_residual_model.specs.ResidualBins.{any_significant}
-use Rattle.hv_unit_model.specs.Trees.{Prediction, Intra, Inter, TransformUnit, Tree, Leaf, Split, Outside, log2TrafoSize, greatest_size}
-use Rattle.hv_unit_model.specs.Sites.{squares, blocks_over, address_of}
-use Rattle.hv_unit_model.specs.EarlierUnits.{Square, Unavailable, Coded, squares_of}
+use Rattle.hv_plan.specs.Levels.{any_significant}
+use Rattle.hv_tree_model.specs.Trees.{Prediction, Intra, Inter, TransformUnit, Tree, Leaf, Split, Outside, log2TrafoSize, greatest_size}
+use Rattle.hv_tree_model.specs.Sites.{squares, blocks_over, address_of}
+use Rattle.hv_tree_model.specs.EarlierUnits.{Square, Unavailable, Coded, squares_of}
 use Rattle.hv_deblock_model.specs.declared.coding.SquareCoding.{SquareCoding}
 use Rattle.hv_deblock_model.specs.EdgeStrength.{Squares}
 use Rattle.hv_deblock_model.specs.CodedSquares.{no_square}

@@ -2,7 +2,7 @@
 -- its coding.
 use Rattle.std.proofs.Common.{◌≡◌, ℕ, zero, suc, ◌+◌, ◌-◌, ◌*◌, ◌/◌, ◌%◌, ◌^◌, ◌<◌, ◌≤◌, Bool, true, false, cond, ltb, List, [], ◌∷◌, refl, arith, ltb-true, ltb-false, pow-suc, pow-add, mul-le-mul_right}
 use Rattle.std.proofs.lemmas.Bool.{cond_both}
-use Rattle.hv_types.specs.Bins.{Question, Context, Bypass, Terminate, Bin}
+use Rattle.hv_tables.specs.Bins.{Question, Context, Bypass, Terminate, Bin}
 use Rattle.hv_tables.proofs.ArithmeticTableLemmas.{width_bounds}
 use Rattle.hv_entropy_model.specs.Contexts.{ContextVariable, variable_at, lps_width}
 use Rattle.hv_lemmas.specs.Booleans.{same}

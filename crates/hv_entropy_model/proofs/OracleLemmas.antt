@@ -1,8 +1,8 @@
 -- What an oracle answers, a script reads: from a list of bins, and from their code word.
 use Rattle.std.proofs.Common.{◌≡◌, ℕ, Bool, true, List, [], ◌∷◌, ◌++◌, refl, sym, ap, subst, eq-eqb, IsSomeAnd}
 use Rattle.std.specs.Prelude.{Option, Some}
-use Rattle.hv_types.specs.declared.bins.SliceKind.{SliceKind}
-use Rattle.hv_types.specs.Bins.{Question, Context, Bypass, Terminate, Bin}
+use Rattle.hv_tables.specs.declared.bins.SliceKind.{SliceKind}
+use Rattle.hv_tables.specs.Bins.{Question, Context, Bypass, Terminate, Bin}
 use Rattle.hv_tables.specs.ContextTables.{offset_of}
 use Rattle.hv_lemmas.specs.Booleans.{same}
 use Rattle.hv_lemmas.proofs.BooleanLemmas.{same_self}

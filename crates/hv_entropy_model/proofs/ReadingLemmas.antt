@@ -3,8 +3,8 @@ use Rattle.std.proofs.Common.{◌≡◌, ℕ, zero, suc, ◌+◌, ◌-◌, ◌*�
 use Rattle.std.proofs.Math.Nat.{le-div_iff_mul-le}
 use Rattle.std.proofs.lemmas.Nat.{shr_split}
 use Rattle.std.specs.Prelude.{Option, Some}
-use Rattle.hv_types.specs.declared.bins.Ctx.{Ctx}
-use Rattle.hv_types.specs.Bins.{Question, Context, Bypass, Terminate, Bin}
+use Rattle.hv_tables.specs.declared.bins.Ctx.{Ctx}
+use Rattle.hv_tables.specs.Bins.{Question, Context, Bypass, Terminate, Bin}
 use Rattle.hv_stream_model.specs.Bits.{digits}
 use Rattle.hv_entropy_model.specs.Contexts.{ContextVariable, variable_at, with_variable, lps_width, next_variable}
 use Rattle.hv_lemmas.specs.Booleans.{same}

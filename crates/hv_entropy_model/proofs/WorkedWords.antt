@@ -1,7 +1,7 @@
 -- Worked code words, computed by the definitions.
 use Rattle.std.proofs.Common.{◌≡◌, true, false, List, [], ◌∷◌, refl, map, ◌++◌}
-use Rattle.hv_types.specs.declared.bins.SliceKind.TheVariants.{I}
-use Rattle.hv_types.specs.Bins.{Bin, bypass_bin, terminate_bin}
+use Rattle.hv_tables.specs.declared.bins.SliceKind.TheVariants.{I}
+use Rattle.hv_tables.specs.Bins.{Bin, bypass_bin, terminate_bin}
 use Rattle.hv_stream_model.specs.Bits.{bytes_of, first_bytes}
 use Rattle.hv_entropy_model.specs.Contexts.{lps_width, next_variable, first_variables}
 use Rattle.hv_entropy_model.specs.CodeWord.{shift_of, reach, first_interval, word}

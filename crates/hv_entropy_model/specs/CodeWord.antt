@@ -1,8 +1,8 @@
 -- The code word that stands for a list of bins: the inverse of the arithmetic decoder of 9.3.4.3.
 -- Its low end is one whole number that is never cut.
 use Rattle.std.specs.Prelude.{◌≡◌, ℕ, zero, suc, ◌+◌, ◌-◌, ◌*◌, ◌%◌, ◌^◌, Bool, true, false, cond, nat_lt, List, [], ◌∷◌}
-use Rattle.hv_types.specs.declared.bins.SliceKind.{SliceKind}
-use Rattle.hv_types.specs.Bins.{Question, Context, Bypass, Terminate, Bin}
+use Rattle.hv_tables.specs.declared.bins.SliceKind.{SliceKind}
+use Rattle.hv_tables.specs.Bins.{Question, Context, Bypass, Terminate, Bin}
 use Rattle.hv_stream_model.specs.Bits.{digits}
 use Rattle.hv_entropy_model.specs.Contexts.{ContextVariable, variable_at, with_variable, lps_width, next_variable, first_variables}
 use Rattle.hv_tables.specs.ContextTables.{IsValid}

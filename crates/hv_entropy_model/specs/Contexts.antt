@@ -2,8 +2,8 @@
 use Rattle.std.specs.Prelude.{ℕ, ◌+◌, ◌-◌, ◌*◌, ◌/◌, ◌%◌, Bool, true, false, cond, not, nat_eq, nat_lt, min, List, [], map, flat_map, slice_index_or, slice_set, pos, ◌+ℤ◌, ◌-ℤ◌, ◌*ℤ◌}
 use Rattle.std.specs.Int.{int_shr}
 use Rattle.std.specs.Int.RustNames.{unsigned_abs}
-use Rattle.hv_types.specs.declared.bins.SliceKind.{SliceKind}
-use Rattle.hv_types.specs.declared.bins.Ctx.{Ctx}
+use Rattle.hv_tables.specs.declared.bins.SliceKind.{SliceKind}
+use Rattle.hv_tables.specs.declared.bins.Ctx.{Ctx}
 use Rattle.hv_lemmas.specs.Booleans.{same}
 use Rattle.hv_lemmas.specs.Clipping.{clip3}
 use Rattle.hv_tables.specs.ContextTables.{tables, values_of, place_of}

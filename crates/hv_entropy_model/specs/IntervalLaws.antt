@@ -1,6 +1,6 @@
 -- What a bin does with the interval of the arithmetic encoder (9.3.4.3).
 use Rattle.std.specs.Prelude.{◌≡◌, ℕ, ◌+◌, ◌*◌, ◌^◌, ◌<◌, ◌≤◌, Bool, false, List}
-use Rattle.hv_types.specs.Bins.{Question}
+use Rattle.hv_tables.specs.Bins.{Question}
 use Rattle.hv_entropy_model.specs.Contexts.{ContextVariable, lps_width}
 use Rattle.hv_entropy_model.specs.CodeWord.{shift_of, Cut, cut, is_last}
 

@@ -1,8 +1,8 @@
 -- The arithmetic decoder (9.3.4.3) as an oracle: a machine that answers questions, bin after bin.
 use Rattle.std.specs.Prelude.{ℕ, zero, suc, ◌+◌, ◌-◌, ◌*◌, ◌^◌, Bool, true, false, cond, not, nat_eq, nat_lt, ◌&&◌, List, [], ◌∷◌, Option, Some, None}
-use Rattle.hv_types.specs.declared.bins.SliceKind.{SliceKind}
-use Rattle.hv_types.specs.declared.bins.Ctx.{Ctx}
-use Rattle.hv_types.specs.Bins.{Question, Context, Bypass, Terminate, Bin}
+use Rattle.hv_tables.specs.declared.bins.SliceKind.{SliceKind}
+use Rattle.hv_tables.specs.declared.bins.Ctx.{Ctx}
+use Rattle.hv_tables.specs.Bins.{Question, Context, Bypass, Terminate, Bin}
 use Rattle.hv_entropy_model.specs.Contexts.{ContextVariable, variable_at, with_variable, lps_width, next_variable, first_variables}
 use Rattle.hv_lemmas.specs.Booleans.{same}
 use Rattle.hv_tables.specs.ContextTables.{offset_of}

@@ -1,7 +1,7 @@
 -- What the arithmetic coder writes is read back exactly.
 use Rattle.std.specs.Prelude.{◌≡◌, ℕ, Bool, List, ◌++◌, Some, IsSomeAnd}
-use Rattle.hv_types.specs.declared.bins.SliceKind.{SliceKind}
-use Rattle.hv_types.specs.Bins.{Question, Bin}
+use Rattle.hv_tables.specs.declared.bins.SliceKind.{SliceKind}
+use Rattle.hv_tables.specs.Bins.{Question, Bin}
 use Rattle.hv_entropy_model.specs.CodeWord.{IsEnded, word}
 use Rattle.hv_stream_model.specs.Scripts.{Script, Reads}
 use Rattle.hv_entropy_model.specs.Oracle.{Listed, begin, read, after_bins, bits_left}

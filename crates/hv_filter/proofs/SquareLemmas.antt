@@ -4,8 +4,8 @@ use Rattle.std.specs.Prelude.{slice_get, Some, option_map}
 use Rattle.std.proofs.lemmas.Option.{slice_get-map}
 use Rattle.hv_block.specs.declared.block.Block.{Block}
 use Rattle.hv_block.specs.Edges.{address_of as block_address}
-use Rattle.hv_unit_model.specs.Plans.{Plan}
-use Rattle.hv_unit_model.specs.Sites.{address_of, blocks_over}
+use Rattle.hv_tree_model.specs.Plans.{Plan}
+use Rattle.hv_tree_model.specs.Sites.{address_of, blocks_over}
 use Rattle.hv_deblock_model.specs.CodedSquares.{square_of_plan}
 use Rattle.hv_filter.specs.JoinedPicture.{lists_of_plan, squares_of_blocks}
 

@@ -5,7 +5,7 @@ use Rattle.hv_types.specs.Samples.{Plane, IsPlane, sample_at}
 use Rattle.hv_block.specs.declared.block.Block.{Block}
 use Rattle.hv_block.specs.Plans.{CtbPlan}
 use Rattle.hv_block.specs.Samples.{Samples}
-use Rattle.hv_unit_model.specs.Plans.{Plan}
+use Rattle.hv_tree_model.specs.Plans.{Plan}
 use Rattle.hv_filter_model.specs.Blocks.{luma_side, chroma_side, blocks_over, joined_plane}
 use Rattle.hv_deblock_model.specs.EdgeStrength.{Squares}
 use Rattle.hv_deblock_model.specs.CodedSquares.{squares_of_plans}

@@ -1,7 +1,7 @@
 //! How the squares of a picture are coded, from its coding tree blocks.
 
 ghost use Rattle.std.specs.Prelude.{◌≡◌, ◌+◌, ◌*◌, ◌/◌, ◌^◌, ◌<◌, ◌≤◌, length, Some};
-ghost use Rattle.hv_unit_model.specs.Sites.{squares};
+ghost use Rattle.hv_tree_model.specs.Sites.{squares};
 ghost use Rattle.hv_filter_model.specs.Blocks.{luma_side, blocks_over};
 ghost use Rattle.hv_deblock_model.specs.EdgeStrength.{log2_transform_squares};
 ghost use Rattle.hv_deblock_model.specs.CodedSquares.{square_of_plan};

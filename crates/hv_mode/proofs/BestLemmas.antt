@@ -5,8 +5,8 @@ use Rattle.std.specs.Prelude.{nat_eq}
 use Rattle.std.proofs.Math.Pow.{pow_mono}
 use Rattle.std.proofs.lemmas.Bool.{true≢false}
 use Rattle.std.proofs.lemmas.Bool.Decides.{nat_tests}
-use Rattle.hv_unit_model.specs.Trees.{Outside, side}
-use Rattle.hv_unit_model.specs.Sites.{Site, x0, y0, is_outside, crosses, must_split}
+use Rattle.hv_tree_model.specs.Trees.{Outside, side}
+use Rattle.hv_tree_model.specs.Sites.{Site, x0, y0, is_outside, crosses, must_split}
 use Rattle.hv_mode_model.specs.ModeDecision.{Given, Before, best, chosen, split_of}
 use Rattle.hv_mode.specs.declared.task.Task.{Task}
 use Rattle.hv_mode.specs.Nodes.{given_of, leaf_choice, blank_choice}

@@ -8,10 +8,10 @@ use Rattle.hv_block.specs.declared.block.Block.{Block}
 use Rattle.hv_block.specs.Plans.{CtbPlan, IsWholePlan, unit_of, with_zeros, with_leaf, without_levels}
 use Rattle.hv_plan.specs.declared.prediction.Pred.TheVariants.{Intra as IntraPred}
 use Rattle.hv_plan.specs.declared.prediction.Unit.{Unit}
-use Rattle.hv_unit_model.specs.Trees.{Leaf, Intra, side, depth_of, log2TrafoSize, transform_units, no_levels, no_unit, no_units}
-use Rattle.hv_unit_model.specs.Sites.{Site, x0, y0, squares, is_outside}
-use Rattle.hv_unit_model.specs.MostProbableModes.{dc}
-use Rattle.hv_unit_model.specs.Plans.{part, square_or_none, transform_unit_at, transform_units_at, leaf_at}
+use Rattle.hv_tree_model.specs.Trees.{Leaf, Intra, side, depth_of, log2TrafoSize, transform_units, no_levels, no_unit, no_units}
+use Rattle.hv_tree_model.specs.Sites.{Site, x0, y0, squares, is_outside}
+use Rattle.hv_tree_model.specs.MostProbableModes.{dc}
+use Rattle.hv_tree_model.specs.Plans.{part, square_or_none, transform_unit_at, transform_units_at, leaf_at}
 use Rattle.hv_recon.specs.Leaves.{IsIntra, DecodesLeaf, KeepsOtherSamples}
 use Rattle.hv_recon.specs.DecodedNodes.{node_of_plan, is_whole, IsNodeOfBlock}
 use Rattle.hv_recon.proofs.NodeLemmas.{leaf_node, leaf_as_node}

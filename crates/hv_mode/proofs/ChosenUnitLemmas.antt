@@ -12,10 +12,10 @@ use Rattle.hv_sample_model.specs.Quantisation.{levels}
 use Rattle.hv_block.specs.Plans.{CtbPlan}
 use Rattle.hv_block.specs.Samples.{Samples}
 use Rattle.hv_plan.specs.declared.prediction.Pred.TheVariants.{Intra as IntraPred}
-use Rattle.hv_unit_model.specs.Trees.{Prediction, Intra, TransformUnit, Leaf}
-use Rattle.hv_unit_model.specs.Sites.{Site, ctb_column, ctb_row, column_of, row_of, x0, y0, squares}
-use Rattle.hv_unit_model.specs.Plans.{part, transform_unit_at, leaf_of}
-use Rattle.hv_unit_model.proofs.NodeLemmas.{IsNode}
+use Rattle.hv_tree_model.specs.Trees.{Prediction, Intra, TransformUnit, Leaf}
+use Rattle.hv_tree_model.specs.Sites.{Site, ctb_column, ctb_row, column_of, row_of, x0, y0, squares}
+use Rattle.hv_tree_model.specs.Plans.{part, transform_unit_at, leaf_of}
+use Rattle.hv_tree_model.proofs.NodeLemmas.{IsNode}
 use Rattle.hv_recon_model.specs.Reconstruction.{Component, Decoded, Square, square_at, chroma_of, quarter, neighbours, decoded_unit}
 use Rattle.hv_recon_model.specs.SeenSamples.{Spot, SamplesAround, IsSeen, luma_spot, chroma_spot, seen_line}
 use Rattle.hv_recon_model.proofs.SeenLemmas.{FitsIn, neighbours_seen}

@@ -12,8 +12,8 @@ use Rattle.hv_lemmas.specs.Lists.{tabulate}
 use Rattle.hv_lemmas.proofs.ListLemmas.{get_or-tabulate}
 use Rattle.hv_block.specs.declared.block.Block.{Block}
 use Rattle.hv_block.specs.Plans.{IsWholePlan, with_part, with_node}
-use Rattle.hv_unit_model.specs.Plans.{part}
-use Rattle.hv_unit_model.specs.Sites.{column_of, row_of, squares}
+use Rattle.hv_tree_model.specs.Plans.{part}
+use Rattle.hv_tree_model.specs.Sites.{column_of, row_of, squares}
 use Rattle.hv_unit_model.proofs.GeometryLemmas.{address_of_place}
 use Rattle.hv_recon_model.specs.Reconstruction.{square_at, is_in}
 use Rattle.hv_recon_model.specs.SeenSamples.{by_rows, comes_before, IsPut}

@@ -6,9 +6,9 @@ use Rattle.std.proofs.lemmas.Bool.{and_parts, ltb-true}
 use Rattle.hv_block.specs.declared.block.Block.{Block}
 use Rattle.hv_block.specs.declared.edges.Neighbours.{Neighbours}
 use Rattle.hv_block.specs.Samples.{Samples}
-use Rattle.hv_unit_model.specs.Trees.{greatest_size}
-use Rattle.hv_unit_model.specs.Sites.{Site}
-use Rattle.hv_unit_model.specs.Plans.{Plan, tree_of}
+use Rattle.hv_tree_model.specs.Trees.{greatest_size}
+use Rattle.hv_tree_model.specs.Sites.{Site}
+use Rattle.hv_tree_model.specs.Plans.{Plan, tree_of}
 use Rattle.hv_syntax.specs.Neighbours.{lists_of_plan}
 use Rattle.hv_syntax.specs.Squares.{Shows}
 use Rattle.hv_recon_model.specs.Reconstruction.{Component, Decoded}

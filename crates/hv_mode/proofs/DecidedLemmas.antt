@@ -3,9 +3,9 @@
 use Rattle.std.proofs.Common.{◌≡◌, ℕ, ◌+◌, ◌<◌, ◌≤◌, true, false, ◌++◌, sym, subst, arith}
 use Rattle.std.proofs.lemmas.Bool.Decides.{nat_tests}
 use Rattle.hv_block.specs.declared.block.Block.{Block}
-use Rattle.hv_unit_model.specs.Trees.{Outside, side}
-use Rattle.hv_unit_model.specs.Sites.{Site, x0, y0, squares, is_outside, must_split}
-use Rattle.hv_unit_model.specs.EarlierUnits.{squares_of}
+use Rattle.hv_tree_model.specs.Trees.{Outside, side}
+use Rattle.hv_tree_model.specs.Sites.{Site, x0, y0, squares, is_outside, must_split}
+use Rattle.hv_tree_model.specs.EarlierUnits.{squares_of}
 use Rattle.hv_unit_model.proofs.GeometryLemmas.{square_of_node}
 use Rattle.hv_syntax.specs.Neighbours.{lists_of_plan}
 use Rattle.hv_syntax.specs.Squares.{Shows, NamesNode}

@@ -5,9 +5,9 @@ use Rattle.std.specs.Prelude.{nat_lt, ◌&&◌, None, slice_get}
 use Rattle.std.proofs.Math.Seq.{take-add}
 use Rattle.std.proofs.lemmas.Bool.{and_parts, ltb-true, lt-ltb}
 use Rattle.hv_block.specs.declared.block.Block.{Block}
-use Rattle.hv_unit_model.specs.Trees.{Tree}
-use Rattle.hv_unit_model.specs.Sites.{squares}
-use Rattle.hv_unit_model.specs.Plans.{part, square_or_none}
+use Rattle.hv_tree_model.specs.Trees.{Tree}
+use Rattle.hv_tree_model.specs.Sites.{squares}
+use Rattle.hv_tree_model.specs.Plans.{part, square_or_none}
 use Rattle.hv_recon_model.specs.Reconstruction.{Component}
 use Rattle.hv_recon_model.specs.SeenSamples.{Spot, SamplesAround, IsSeen, by_rows, comes_before, is_in_picture, sample_at_left, sample_above, sample_around, look_around}
 use Rattle.hv_recon.proofs.ChoiceLemmas.{same_where, other_where}

@@ -12,10 +12,10 @@ use Rattle.hv_block.specs.declared.block.Block.{Block}
 use Rattle.hv_block.specs.Plans.{CtbPlan, with_units, unit_of}
 use Rattle.hv_plan.specs.declared.prediction.Pred.TheVariants.{Intra as IntraPred}
 use Rattle.hv_plan.specs.declared.prediction.Unit.{Unit}
-use Rattle.hv_unit_model.specs.Trees.{Prediction, Intra, TransformUnit, Tree, Leaf, side, depth_of, log2TrafoSize, transform_units}
-use Rattle.hv_unit_model.specs.Sites.{Site, squares, is_outside}
-use Rattle.hv_unit_model.specs.EarlierUnits.{Square, Unavailable, Coded, squares_of}
-use Rattle.hv_unit_model.specs.Plans.{leaf_at, leaf_of, transform_units_at, square_or_none}
+use Rattle.hv_tree_model.specs.Trees.{Prediction, Intra, TransformUnit, Tree, Leaf, side, depth_of, log2TrafoSize, transform_units}
+use Rattle.hv_tree_model.specs.Sites.{Site, squares, is_outside}
+use Rattle.hv_tree_model.specs.EarlierUnits.{Square, Unavailable, Coded, squares_of}
+use Rattle.hv_tree_model.specs.Plans.{leaf_at, leaf_of, transform_units_at, square_or_none}
 use Rattle.hv_syntax.specs.Squares.{Shows, NamesNode, own_square}
 use Rattle.hv_recon.specs.CodedLeaves.{IsLeafCoded, IsLeafSet}
 use Rattle.hv_recon.specs.DecodedNodes.{IsNodeOfBlock, is_whole, node_of_plan}

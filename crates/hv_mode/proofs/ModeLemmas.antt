@@ -7,9 +7,9 @@ use Rattle.std.proofs.Math.Dec.{lit≤}
 use Rattle.hv_lemmas.specs.Lists.{tabulate}
 use Rattle.hv_sample_model.specs.IntraPrediction.{substituted}
 use Rattle.hv_block.specs.declared.block.Block.{Block}
-use Rattle.hv_unit_model.specs.Trees.{log2TrafoSize}
-use Rattle.hv_unit_model.specs.Sites.{Site, squares, column_of, row_of, x0, y0}
-use Rattle.hv_unit_model.specs.MostProbableModes.{planar, candidates}
+use Rattle.hv_tree_model.specs.Trees.{log2TrafoSize}
+use Rattle.hv_tree_model.specs.Sites.{Site, squares, column_of, row_of, x0, y0}
+use Rattle.hv_tree_model.specs.MostProbableModes.{planar, candidates}
 use Rattle.hv_recon_model.specs.Reconstruction.{square_at, neighbours}
 use Rattle.hv_recon_model.specs.SeenSamples.{luma_spot, seen_line}
 use Rattle.hv_recon_model.proofs.SeenLemmas.{FitsIn, neighbours_seen}

@@ -1,9 +1,9 @@
 -- The cost of a node by its squared differences and its bins.
 use Rattle.std.proofs.Common.{◌≡◌, ℕ, zero, suc, ◌+◌, ◌≤◌, List, length, sym, ap, ap₂, subst, ◌∙◌, arith}
-use Rattle.hv_unit_model.specs.Trees.{Tree}
-use Rattle.hv_unit_model.specs.Sites.{Site, squares}
-use Rattle.hv_unit_model.specs.EarlierUnits.{Square, Surroundings}
-use Rattle.hv_unit_model.specs.Plans.{Plan, tree_at}
+use Rattle.hv_tree_model.specs.Trees.{Tree}
+use Rattle.hv_tree_model.specs.Sites.{Site, squares}
+use Rattle.hv_tree_model.specs.EarlierUnits.{Square, Surroundings}
+use Rattle.hv_tree_model.specs.Plans.{Plan, tree_at}
 use Rattle.hv_unit_model.specs.Bins.{bins_of_node}
 use Rattle.hv_syntax.specs.Squares.{Shows, NamesNode}
 use Rattle.hv_recon.specs.DecodedNodes.{IsNodeOfBlock}

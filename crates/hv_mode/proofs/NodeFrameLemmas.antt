@@ -8,10 +8,10 @@ use Rattle.std.proofs.lemmas.Bool.Decides.{nat_tests}
 use Rattle.hv_plan.specs.declared.prediction.Unit.{Unit}
 use Rattle.hv_block.specs.declared.block.Block.{Block}
 use Rattle.hv_block.specs.Plans.{plan_of_lists}
-use Rattle.hv_unit_model.specs.Trees.{Tree, Leaf, Split, Outside, depth_of, log2TrafoSize, transform_units}
-use Rattle.hv_unit_model.specs.Sites.{Site, squares, is_outside}
-use Rattle.hv_unit_model.specs.EarlierUnits.{Square, Unavailable, squares_of}
-use Rattle.hv_unit_model.specs.Plans.{Plan, part, prediction_of, transform_unit_at, transform_units_at, leaf_at, is_leaf, tree_at}
+use Rattle.hv_tree_model.specs.Trees.{Tree, Leaf, Split, Outside, depth_of, log2TrafoSize, transform_units}
+use Rattle.hv_tree_model.specs.Sites.{Site, squares, is_outside}
+use Rattle.hv_tree_model.specs.EarlierUnits.{Square, Unavailable, squares_of}
+use Rattle.hv_tree_model.specs.Plans.{Plan, part, prediction_of, transform_unit_at, transform_units_at, leaf_at, is_leaf, tree_at}
 use Rattle.hv_recon_model.specs.Reconstruction.{Decoded}
 use Rattle.hv_recon.specs.Leaves.{AreSeen}
 use Rattle.hv_recon.specs.DecodedNodes.{node_of_plan, IsNodeOfBlock, DecodesNode}

@@ -12,10 +12,10 @@ use Rattle.hv_block.specs.declared.edges.Neighbours.{Neighbours}
 use Rattle.hv_block.specs.Around.{neighbours_of}
 use Rattle.hv_block.specs.Samples.{AreWholeSamples}
 use Rattle.hv_block.proofs.AroundLemmas.{set_later, neighbours_kept}
-use Rattle.hv_unit_model.specs.Trees.{Tree, greatest_size}
-use Rattle.hv_unit_model.specs.Sites.{Site, site, sites, sites_from, blocks_over, ctb_side, ctb_column, ctb_row}
-use Rattle.hv_unit_model.specs.EarlierUnits.{Square, squares_of, after}
-use Rattle.hv_unit_model.specs.Plans.{Plan, IsPlan, NamesItsUnits, tree_of}
+use Rattle.hv_tree_model.specs.Trees.{Tree, greatest_size}
+use Rattle.hv_tree_model.specs.Sites.{Site, site, sites, sites_from, blocks_over, ctb_side, ctb_column, ctb_row}
+use Rattle.hv_tree_model.specs.EarlierUnits.{Square, squares_of, after}
+use Rattle.hv_tree_model.specs.Plans.{Plan, IsPlan, NamesItsUnits, tree_of}
 use Rattle.hv_unit_model.specs.PlanLaws.{ArePlansBefore, LieAround, squares_of_plans}
 use Rattle.hv_unit_model.proofs.AroundLemmas.{plans_are_appended}
 use Rattle.hv_syntax.specs.Neighbours.{lists_of_plan, around_of}

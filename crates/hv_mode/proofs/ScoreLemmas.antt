@@ -6,8 +6,8 @@ use Rattle.std.specs.Int.{abs_diff}
 use Rattle.std.specs.Int.RustNames.{unsigned_abs}
 use Rattle.std.proofs.lemmas.Int.{ints}
 use Rattle.hv_sample_model.specs.IntraPrediction.{predicted, substituted}
-use Rattle.hv_unit_model.specs.Trees.{log2TrafoSize}
-use Rattle.hv_unit_model.specs.MostProbableModes.{planar}
+use Rattle.hv_tree_model.specs.Trees.{log2TrafoSize}
+use Rattle.hv_tree_model.specs.MostProbableModes.{planar}
 use Rattle.hv_recon_model.specs.Reconstruction.{neighbours}
 use Rattle.hv_filter_model.specs.Costs.{first_least}
 use Rattle.hv_mode_model.specs.ModeDecision.{differences, block_samples, first_block, further_modes, score, luma_mode, mode_bins, mode_bin_weight}

@@ -10,9 +10,9 @@ use Rattle.hv_types.specs.Samples.{Plane, sample_at}
 use Rattle.hv_types.specs.declared.picture.Picture.{Picture}
 use Rattle.hv_types.specs.Video.{IsPicture}
 use Rattle.hv_sample_model.specs.Blocks.{total_of}
-use Rattle.hv_unit_model.specs.Trees.{side}
-use Rattle.hv_unit_model.specs.Sites.{Site, ctb_column, ctb_row, column_of, row_of, squares, x0, y0}
-use Rattle.hv_unit_model.proofs.NodeLemmas.{IsNode}
+use Rattle.hv_tree_model.specs.Trees.{side}
+use Rattle.hv_tree_model.specs.Sites.{Site, ctb_column, ctb_row, column_of, row_of, squares, x0, y0}
+use Rattle.hv_tree_model.proofs.NodeLemmas.{IsNode}
 use Rattle.hv_unit_model.proofs.GeometryLemmas.{address_of_place}
 use Rattle.hv_recon_model.specs.Reconstruction.{Component, Decoded, square_at, chroma_of, is_in, sample_of}
 use Rattle.hv_recon_model.specs.SeenSamples.{Spot, SamplesAround, IsSeen, luma_spot, chroma_spot, by_rows, comes_before}

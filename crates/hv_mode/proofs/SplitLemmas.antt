@@ -5,11 +5,11 @@ use Rattle.std.specs.Prelude.{List, slice_get}
 use Rattle.std.proofs.Math.Dec.{lit<}
 use Rattle.hv_block.specs.declared.block.Block.{Block}
 use Rattle.hv_block.specs.Plans.{CtbPlan}
-use Rattle.hv_unit_model.specs.Trees.{Tree, greatest_size}
-use Rattle.hv_unit_model.specs.Sites.{x0, y0, squares, is_outside}
-use Rattle.hv_unit_model.specs.EarlierUnits.{Square, squares_of}
-use Rattle.hv_unit_model.specs.Plans.{is_leaf}
-use Rattle.hv_unit_model.proofs.NodeLemmas.{child_of}
+use Rattle.hv_tree_model.specs.Trees.{Tree, greatest_size}
+use Rattle.hv_tree_model.specs.Sites.{x0, y0, squares, is_outside}
+use Rattle.hv_tree_model.specs.EarlierUnits.{Square, squares_of}
+use Rattle.hv_tree_model.specs.Plans.{is_leaf}
+use Rattle.hv_tree_model.proofs.NodeLemmas.{child_of}
 use Rattle.hv_syntax.specs.Neighbours.{lists_of_plan}
 use Rattle.hv_syntax.specs.Squares.{Shows, NamesNode}
 use Rattle.hv_recon_model.specs.Reconstruction.{Decoded, decoded_tree}

@@ -1,7 +1,7 @@
 -- A square of samples that is copied among those of a coding tree block.
 use Rattle.std.specs.Prelude.{◌≡◌, ℕ, ◌+◌, ◌*◌, ◌<◌, cond, List}
 use Rattle.hv_block.specs.Samples.{Samples}
-use Rattle.hv_unit_model.specs.Sites.{column_of, row_of}
+use Rattle.hv_tree_model.specs.Sites.{column_of, row_of}
 use Rattle.hv_recon_model.specs.Reconstruction.{square_at, is_in}
 use Rattle.hv_recon_model.specs.SeenSamples.{by_rows}
 

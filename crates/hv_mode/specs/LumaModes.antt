@@ -2,8 +2,8 @@
 -- that block, as code has them.
 use Rattle.std.specs.Prelude.{◌≡◌, ℕ, ◌+◌, ◌*◌, true, cond, nat_lt, List, [], ◌∷◌, length, slice_index_or}
 use Rattle.hv_sample_model.specs.IntraPrediction.{predicted, substituted}
-use Rattle.hv_unit_model.specs.Trees.{log2TrafoSize}
-use Rattle.hv_unit_model.specs.MostProbableModes.{planar, candidates}
+use Rattle.hv_tree_model.specs.Trees.{log2TrafoSize}
+use Rattle.hv_tree_model.specs.MostProbableModes.{planar, candidates}
 use Rattle.hv_unit_model.specs.Bins.{luma_mode_bins}
 use Rattle.hv_recon_model.specs.Reconstruction.{neighbours}
 use Rattle.hv_filter_model.specs.Costs.{first_least}

@@ -4,7 +4,7 @@ use Rattle.std.specs.Prelude.{◌≡◌, ℕ, ◌+◌, ◌*◌, ◌/◌, ◌^◌
 use Rattle.hv_types.specs.declared.picture.Picture.{Picture}
 use Rattle.hv_types.specs.Samples.{Plane, sample_at}
 use Rattle.hv_sample_model.specs.Blocks.{total_of}
-use Rattle.hv_unit_model.specs.Sites.{Site, column_of, row_of, x0, y0}
+use Rattle.hv_tree_model.specs.Sites.{Site, column_of, row_of, x0, y0}
 use Rattle.hv_recon_model.specs.Reconstruction.{sample_of}
 use Rattle.hv_recon_model.specs.SeenSamples.{by_rows}
 use Rattle.hv_mode_model.specs.ModeDecision.{squared_difference}

@@ -2,10 +2,10 @@
 -- it, in one block that is written.
 use Rattle.std.specs.Prelude.{◌≡◌, ℕ, ◌+◌, ◌*◌, ◌<◌, true, false, List, take}
 use Rattle.hv_block.specs.declared.block.Block.{Block}
-use Rattle.hv_unit_model.specs.Trees.{Tree, Leaf, Intra, no_units}
-use Rattle.hv_unit_model.specs.Sites.{squares}
-use Rattle.hv_unit_model.specs.MostProbableModes.{dc}
-use Rattle.hv_unit_model.specs.Plans.{part, in_block}
+use Rattle.hv_tree_model.specs.Trees.{Tree, Leaf, Intra, no_units}
+use Rattle.hv_tree_model.specs.Sites.{squares}
+use Rattle.hv_tree_model.specs.MostProbableModes.{dc}
+use Rattle.hv_tree_model.specs.Plans.{part, in_block}
 use Rattle.hv_syntax.specs.Neighbours.{lists_of_plan, around_of}
 use Rattle.hv_syntax.specs.Squares.{Shows, NamesNode}
 use Rattle.hv_recon_model.specs.SeenSamples.{by_rows, comes_before}

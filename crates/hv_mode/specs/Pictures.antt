@@ -5,9 +5,9 @@ use Rattle.hv_block.specs.declared.block.Block.{Block}
 use Rattle.hv_block.specs.declared.edges.Neighbours.{Neighbours}
 use Rattle.hv_block.specs.Around.{neighbours_of}
 use Rattle.hv_block.specs.Samples.{Samples, AreWholeSamples}
-use Rattle.hv_unit_model.specs.Trees.{greatest_size}
-use Rattle.hv_unit_model.specs.Sites.{Site, site}
-use Rattle.hv_unit_model.specs.Plans.{Plan, IsPlan, NamesItsUnits, tree_of, in_block}
+use Rattle.hv_tree_model.specs.Trees.{greatest_size}
+use Rattle.hv_tree_model.specs.Sites.{Site, site}
+use Rattle.hv_tree_model.specs.Plans.{Plan, IsPlan, NamesItsUnits, tree_of, in_block}
 use Rattle.hv_syntax.specs.Neighbours.{lists_of_plan, around_of}
 use Rattle.hv_recon_model.specs.Reconstruction.{Decoded}
 use Rattle.hv_recon.specs.Leaves.{AreSeen}

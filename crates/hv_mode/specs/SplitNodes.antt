@@ -1,6 +1,6 @@
 -- Nodes that may be split: what is chosen of one that is split, and of one that is tried both ways.
 use Rattle.std.specs.Prelude.{ℕ, ◌-◌, [], ◌∷◌}
-use Rattle.hv_unit_model.specs.Trees.{Tree}
+use Rattle.hv_tree_model.specs.Trees.{Tree}
 use Rattle.hv_mode_model.specs.ModeDecision.{Before, least_of, split_of, best}
 use Rattle.hv_mode.specs.declared.task.Task.{Task}
 use Rattle.hv_mode.specs.Nodes.{given_of, leaf_choice}

@@ -1,8 +1,8 @@
 //! A node that is one coding unit of mode DC without a level.
 
 ghost use Rattle.std.specs.Prelude.{◌+◌, ◌≤◌};
-ghost use Rattle.hv_unit_model.specs.Trees.{side};
-ghost use Rattle.hv_unit_model.specs.Sites.{x0, y0};
+ghost use Rattle.hv_tree_model.specs.Trees.{side};
+ghost use Rattle.hv_tree_model.specs.Sites.{x0, y0};
 ghost use Rattle.hv_recon.specs.DecodedNodes.{IsNodeOfBlock};
 ghost use Rattle.hv_mode.specs.Nodes.{Decides, blank_choice};
 

@@ -1,7 +1,7 @@
 //! Copying of a node from one coding tree block to another.
 
 ghost use Rattle.std.specs.Prelude.{◌≡◌, ◌+◌, ◌*◌, ◌^◌, ◌≤◌, ◌<◌, length};
-ghost use Rattle.hv_unit_model.specs.Sites.{column_of, row_of};
+ghost use Rattle.hv_tree_model.specs.Sites.{column_of, row_of};
 ghost use Rattle.hv_recon.specs.DecodedNodes.{IsNodeOfBlock};
 ghost use Rattle.hv_mode.specs.Nodes.{CopiesNode};
 ghost use Rattle.hv_mode.specs.Copies.{CopiesSquare, CopiesSamples};

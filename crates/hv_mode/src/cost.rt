@@ -1,9 +1,9 @@
 //! What a node costs: how far its samples are from the input, and its bins by their weight.
 
 ghost use Rattle.std.specs.Prelude.{◌≡◌, ◌+◌, ◌^◌, ◌<◌, ◌≤◌, List, length};
-ghost use Rattle.hv_unit_model.specs.Trees.{Tree, side};
-ghost use Rattle.hv_unit_model.specs.Sites.{squares, x0, y0};
-ghost use Rattle.hv_unit_model.specs.EarlierUnits.{Square};
+ghost use Rattle.hv_tree_model.specs.Trees.{Tree, side};
+ghost use Rattle.hv_tree_model.specs.Sites.{squares, x0, y0};
+ghost use Rattle.hv_tree_model.specs.EarlierUnits.{Square};
 ghost use Rattle.hv_unit_model.specs.Bins.{bins_of_node};
 ghost use Rattle.hv_syntax.specs.Neighbours.{lists_of_plan};
 ghost use Rattle.hv_syntax.specs.Squares.{Shows, NamesNode};

@@ -9,7 +9,8 @@ use crate::task::Task;
 use hv_block::{Block, Neighbours};
 use hv_plan::{Node, Place, Pred};
 use hv_syntax::names_its_node;
-use hv_types::{NoMemory, Picture, Plane, SliceKind};
+use hv_tables::SliceKind;
+use hv_types::{NoMemory, Picture, Plane};
 use std::alloc::Global;
 use std::test::Fail;
 

@@ -2,8 +2,8 @@
 
 ghost use Rattle.std.specs.Prelude.{◌≡◌, []};
 ghost use Rattle.hv_block.specs.Samples.{Samples};
-ghost use Rattle.hv_unit_model.specs.Trees.{greatest_size};
-ghost use Rattle.hv_unit_model.specs.Plans.{tree_of, NamesItsUnits};
+ghost use Rattle.hv_tree_model.specs.Trees.{greatest_size};
+ghost use Rattle.hv_tree_model.specs.Plans.{tree_of, NamesItsUnits};
 ghost use Rattle.hv_recon_model.specs.Reconstruction.{Decoded};
 ghost use Rattle.hv_recon.specs.Leaves.{AreSeen};
 ghost use Rattle.hv_recon.specs.DecodedNodes.{DecodesBlock};
@@ -61,7 +61,8 @@ mod tests {
     use super::*;
     use hv_block::Neighbours;
     use hv_plan::{Place, Pred};
-    use hv_types::{Picture, Plane, SliceKind};
+    use hv_tables::SliceKind;
+    use hv_types::{Picture, Plane};
     use std::test::Fail;
 
     fn have_no_level(levels: &[i16]) -> bool {

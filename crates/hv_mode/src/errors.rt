@@ -1,8 +1,8 @@
 //! How far the samples of a node are from the input: the sum of squared differences.
 
 ghost use Rattle.std.specs.Prelude.{◌≡◌, ◌+◌, ◌*◌, ◌/◌, ◌^◌, ◌<◌, ◌≤◌, length, drop};
-ghost use Rattle.hv_unit_model.specs.Trees.{side};
-ghost use Rattle.hv_unit_model.specs.Sites.{column_of, row_of, squares, x0, y0};
+ghost use Rattle.hv_tree_model.specs.Trees.{side};
+ghost use Rattle.hv_tree_model.specs.Sites.{column_of, row_of, squares, x0, y0};
 ghost use Rattle.hv_recon_model.specs.Reconstruction.{Decoded};
 ghost use Rattle.hv_recon.specs.Leaves.{AreSeen};
 ghost use Rattle.hv_recon.specs.DecodedNodes.{IsNodeOfBlock};

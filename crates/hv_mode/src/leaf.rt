@@ -2,13 +2,13 @@
 //! free.
 
 ghost use Rattle.std.specs.Prelude.{◌≡◌, ◌+◌, ◌*◌, ◌^◌, ◌<◌, ◌≤◌, ℕ, List, false};
-ghost use Rattle.hv_types.specs.declared.bins.SliceKind.{SliceKind};
+ghost use Rattle.hv_tables.specs.declared.bins.SliceKind.{SliceKind};
 ghost use Rattle.hv_sample_model.specs.IntraPrediction.{substituted};
-ghost use Rattle.hv_unit_model.specs.Trees.{side};
-ghost use Rattle.hv_unit_model.specs.Sites.{column_of, row_of, x0, y0, is_outside};
-ghost use Rattle.hv_unit_model.specs.EarlierUnits.{Square};
-ghost use Rattle.hv_unit_model.specs.MostProbableModes.{candidates};
-ghost use Rattle.hv_unit_model.specs.Plans.{in_block};
+ghost use Rattle.hv_tree_model.specs.Trees.{side};
+ghost use Rattle.hv_tree_model.specs.Sites.{column_of, row_of, x0, y0, is_outside};
+ghost use Rattle.hv_tree_model.specs.EarlierUnits.{Square};
+ghost use Rattle.hv_tree_model.specs.MostProbableModes.{candidates};
+ghost use Rattle.hv_tree_model.specs.Plans.{in_block};
 ghost use Rattle.hv_syntax.specs.Neighbours.{lists_of_plan, around_of};
 ghost use Rattle.hv_syntax.specs.Squares.{Shows};
 ghost use Rattle.hv_recon_model.specs.SeenSamples.{luma_spot, seen_line};

@@ -2,8 +2,8 @@
 //! free.
 
 ghost use Rattle.std.specs.Prelude.{◌≡◌, ◌+◌, ◌-◌, ◌<◌, ◌≤◌, false, length};
-ghost use Rattle.hv_unit_model.specs.Trees.{side};
-ghost use Rattle.hv_unit_model.specs.Sites.{x0, y0, is_outside, must_split};
+ghost use Rattle.hv_tree_model.specs.Trees.{side};
+ghost use Rattle.hv_tree_model.specs.Sites.{x0, y0, is_outside, must_split};
 ghost use Rattle.hv_recon.specs.DecodedNodes.{IsNodeOfBlock};
 ghost use Rattle.hv_mode_model.specs.ModeDecision.{best};
 ghost use Rattle.hv_mode.specs.Nodes.{given_of, Decides};

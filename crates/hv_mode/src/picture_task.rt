@@ -3,7 +3,8 @@
 ghost use Rattle.std.specs.Prelude.{◌≡◌, ◌%◌, ◌<◌, ◌≤◌};
 ghost use Rattle.hv_types.specs.Video.{IsPicture};
 
-use hv_types::{Picture, SliceKind};
+use hv_tables::SliceKind;
+use hv_types::Picture;
 
 /// What is given for all coding tree blocks of a picture: how much is tried (`effort`, 0 to 2), the
 /// quantiser of the slice (`SliceQpY`, 0 to 51), the padded picture that is encoded and its sides

@@ -5,7 +5,8 @@ ghost use Rattle.hv_types.specs.Video.{IsPicture};
 
 use hv_block::Neighbours;
 use hv_plan::Place;
-use hv_types::{Picture, SliceKind};
+use hv_tables::SliceKind;
+use hv_types::Picture;
 
 /// What is given for a coding tree block: how much is tried (`effort`, 0 to 2), the quantiser of
 /// the slice (`SliceQpY`, 0 to 51), the padded picture that is encoded, the kind of the slice and

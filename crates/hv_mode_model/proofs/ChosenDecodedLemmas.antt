@@ -2,11 +2,11 @@
 use Rattle.std.proofs.Common.{◌≡◌, ℕ, zero, suc, ◌+◌, ◌*◌, List, [], ◌∷◌, refl, sym, ap, ap₂, subst, ◌∙◌, arith}
 use Rattle.std.specs.Prelude.{Option, Some, option_and_then}
 use Rattle.hv_lemmas.proofs.OptionLemmas.{some_same}
-use Rattle.hv_types.specs.declared.bins.SliceKind.TheVariants.{I}
-use Rattle.hv_unit_model.specs.Trees.{Intra, Inter, TransformUnit, Tree, Leaf, Split, Outside, side, greatest_size}
-use Rattle.hv_unit_model.specs.Sites.{Site, x0, y0, ctb_side, ctb_column, ctb_row, squares, sites, column_of, row_of}
-use Rattle.hv_unit_model.specs.EarlierUnits.{after}
-use Rattle.hv_unit_model.specs.Validity.{IsValidNode}
+use Rattle.hv_tables.specs.declared.bins.SliceKind.TheVariants.{I}
+use Rattle.hv_tree_model.specs.Trees.{Intra, Inter, TransformUnit, Tree, Leaf, Split, Outside, side, greatest_size}
+use Rattle.hv_tree_model.specs.Sites.{Site, x0, y0, ctb_side, ctb_column, ctb_row, squares, sites, column_of, row_of}
+use Rattle.hv_tree_model.specs.EarlierUnits.{after}
+use Rattle.hv_tree_model.specs.Validity.{IsValidNode}
 use Rattle.hv_recon_model.specs.Reconstruction.{Decoded, nothing_decoded, Square, decoded_block, decoded_quarters, decoded_units, decoded_tree, decoded_trees}
 use Rattle.hv_recon_model.specs.ReconstructionLaws.{AreDecoded}
 use Rattle.hv_recon_model.proofs.PictureLemmas.{every_sample}

@@ -3,14 +3,14 @@
 -- asks for what is seen. So what is chosen in a block is what is chosen in the picture.
 use Rattle.std.proofs.Common.{◌≡◌, ℕ, zero, suc, ◌+◌, ◌*◌, ◌≤◌, cond, List, [], ◌∷◌, length, refl, ap, ap₂, ◌∙◌, arith}
 use Rattle.std.specs.Prelude.{nat_eq}
-use Rattle.hv_types.specs.declared.bins.SliceKind.{SliceKind}
+use Rattle.hv_tables.specs.declared.bins.SliceKind.{SliceKind}
 use Rattle.hv_types.specs.declared.picture.Picture.{Picture}
-use Rattle.hv_unit_model.specs.Trees.{Intra, Tree, Leaf, Split, Outside, greatest_size, no_units}
-use Rattle.hv_unit_model.specs.Sites.{Site, squares, is_outside, must_split}
-use Rattle.hv_unit_model.specs.EarlierUnits.{Look, look_picture}
-use Rattle.hv_unit_model.specs.MostProbableModes.{planar, dc}
+use Rattle.hv_tree_model.specs.Trees.{Intra, Tree, Leaf, Split, Outside, greatest_size, no_units}
+use Rattle.hv_tree_model.specs.Sites.{Site, squares, is_outside, must_split}
+use Rattle.hv_tree_model.specs.EarlierUnits.{Look, look_picture}
+use Rattle.hv_tree_model.specs.MostProbableModes.{planar, dc}
 use Rattle.hv_unit_model.specs.Bins.{luma_mode_bins}
-use Rattle.hv_unit_model.specs.Plans.{look_around}
+use Rattle.hv_tree_model.specs.Plans.{look_around}
 use Rattle.hv_unit_model.specs.PlanLaws.{squares_before}
 use Rattle.hv_unit_model.proofs.AroundLemmas.{blocks_around}
 use Rattle.hv_unit_model.proofs.SeenBinsLemmas.{SeeTheSame, behind as squares_behind, same_candidates, same_bins}

@@ -13,22 +13,22 @@ use Rattle.hv_lemmas.specs.Clipping.{clip16}
 use Rattle.hv_lemmas.specs.Lists.{tabulate}
 use Rattle.hv_lemmas.proofs.ComparisonLemmas.{lt_below}
 use Rattle.hv_lemmas.proofs.ListLemmas.{length-tabulate}
-use Rattle.hv_types.specs.declared.bins.SliceKind.{SliceKind}
+use Rattle.hv_tables.specs.declared.bins.SliceKind.{SliceKind}
 use Rattle.hv_sample_model.specs.Blocks.{square}
 use Rattle.hv_sample_model.specs.Quantisation.{levels, transformed, with_sign_of, offset_of_kind, quantisation_shift}
-use Rattle.hv_residual_model.specs.ResidualSyntax.{has_16_bits}
+use Rattle.hv_plan.specs.Levels.{has_16_bits}
 use Rattle.hv_tables.specs.Quantisers.{chroma_qp}
-use Rattle.hv_unit_model.specs.Trees.{Prediction, Intra, TransformUnit, Tree, Leaf, Outside, greatest_size, log2TrafoSize, transform_units, no_units}
-use Rattle.hv_unit_model.specs.Sites.{Site, squares, x0, y0, is_outside, must_split}
-use Rattle.hv_unit_model.specs.MostProbableModes.{planar, dc}
+use Rattle.hv_tree_model.specs.Trees.{Prediction, Intra, TransformUnit, Tree, Leaf, Outside, greatest_size, log2TrafoSize, transform_units, no_units}
+use Rattle.hv_tree_model.specs.Sites.{Site, squares, x0, y0, is_outside, must_split}
+use Rattle.hv_tree_model.specs.MostProbableModes.{planar, dc}
 use Rattle.hv_unit_model.proofs.TransformLemmas.{no_units_valid}
 use Rattle.hv_unit_model.specs.BlockSyntax.{is_intra}
-use Rattle.hv_unit_model.specs.Validity.{HaveLevels, IsTransformUnit, AreTransformUnits, IsValidNode, intra_modes}
+use Rattle.hv_tree_model.specs.Validity.{HaveLevels, IsTransformUnit, AreTransformUnits, IsValidNode, intra_modes}
 use Rattle.hv_recon_model.specs.Reconstruction.{Decoded, Square, square_at}
 use Rattle.hv_filter_model.proofs.CostLemmas.{Each, first_least_keeps, each_tabulate}
 use Rattle.hv_mode_model.specs.ModeDecision.{Given, Before, chosen_levels, chosen_unit, chosen_units, leaf, further_modes, score, luma_mode, cost_of, predictions, least_of, chosen, split_of, best, Task, given_at, best_trees}
 use Rattle.hv_mode_model.specs.ModeLaws.{ChosenNodesMayBeCoded, ChosenTreesMayBeCoded}
-use Rattle.hv_unit_model.specs.EarlierUnits.{Square as UnitSquare}
+use Rattle.hv_tree_model.specs.EarlierUnits.{Square as UnitSquare}
 use Rattle.hv_recon_model.specs.ReconstructionLaws.{AreTrees}
 
 -- ---- levels

@@ -10,10 +10,10 @@ use Rattle.hv_residual_model.specs.Binarization.{truncated_unary_bins, exp_golom
 use Rattle.hv_residual_model.specs.ScanOrder.{scan_order, block_position}
 use Rattle.hv_residual_model.specs.ResidualSyntax.{positions}
 use Rattle.hv_residual_model.specs.ResidualBins.{level_at, downwards, levels_below, last_significant, prefix_of, last_bins, sig_coeff_bins, greater1_bins, level_bins, sub_blocks_bins, bins_from, residual_bins}
-use Rattle.hv_unit_model.specs.Trees.{Intra, Split}
-use Rattle.hv_unit_model.specs.Sites.{is_outside, column_of, row_of, crosses, address_of}
-use Rattle.hv_unit_model.specs.EarlierUnits.{Coded, look_picture}
-use Rattle.hv_unit_model.specs.MostProbableModes.{candModeList, remaining_of}
+use Rattle.hv_tree_model.specs.Trees.{Intra, Split}
+use Rattle.hv_tree_model.specs.Sites.{is_outside, column_of, row_of, crosses, address_of}
+use Rattle.hv_tree_model.specs.EarlierUnits.{Coded, look_picture}
+use Rattle.hv_tree_model.specs.MostProbableModes.{candModeList, remaining_of}
 use Rattle.hv_unit_model.specs.Bins.{luma_mode_bins, bins_of_node, predicted_bins, transform_tree_bins, transform_unit_bins}
 use Rattle.hv_recon_model.specs.Reconstruction.{nothing, decoded_block, decoded_tree}
 use Rattle.hv_mode_model.specs.ModeDecision.{Given, Before, mode_bin_weight, score, leaf, chosen_levels, cost_of, squared_errors}

@@ -1,10 +1,10 @@
 -- Small pictures, and trees of them, for worked values.
 use Rattle.std.proofs.Common.{ℕ, ◌-◌, ◌/◌, List, [], ◌∷◌, replicate, ℤ, pos}
-use Rattle.hv_types.specs.declared.bins.SliceKind.TheVariants.{I}
+use Rattle.hv_tables.specs.declared.bins.SliceKind.TheVariants.{I}
 use Rattle.hv_types.specs.declared.picture.Picture.{Picture}
 use Rattle.hv_types.specs.Samples.{plane_of}
-use Rattle.hv_unit_model.specs.Trees.{Intra, TransformUnit, Tree, Leaf, Split, Outside}
-use Rattle.hv_unit_model.specs.Sites.{site}
+use Rattle.hv_tree_model.specs.Trees.{Intra, TransformUnit, Tree, Leaf, Split, Outside}
+use Rattle.hv_tree_model.specs.Sites.{site}
 use Rattle.hv_recon_model.specs.Reconstruction.{nothing_decoded}
 use Rattle.hv_mode_model.specs.ModeDecision.{Given, Before, Task, given_at}
 

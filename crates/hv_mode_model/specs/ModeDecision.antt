@@ -6,16 +6,16 @@ use Rattle.std.specs.Prelude.{ℕ, zero, suc, ◌+◌, ◌*◌, ◌/◌, ◌^◌
 use Rattle.std.specs.Int.{abs_diff}
 use Rattle.std.specs.Int.RustNames.{unsigned_abs}
 use Rattle.hv_lemmas.specs.Lists.{tabulate}
-use Rattle.hv_types.specs.declared.bins.SliceKind.{SliceKind}
+use Rattle.hv_tables.specs.declared.bins.SliceKind.{SliceKind}
 use Rattle.hv_types.specs.declared.picture.Picture.{Picture}
 use Rattle.hv_types.specs.Samples.{Plane, sample_at}
 use Rattle.hv_tables.specs.Quantisers.{chroma_qp}
 use Rattle.hv_sample_model.specs.Blocks.{square, total_of}
 use Rattle.hv_sample_model.specs.Quantisation.{levels}
-use Rattle.hv_unit_model.specs.Trees.{Prediction, Intra, TransformUnit, Tree, Leaf, Split, Outside, greatest_size, log2TrafoSize, no_units}
-use Rattle.hv_unit_model.specs.Sites.{Site, squares, x0, y0, is_outside, must_split}
-use Rattle.hv_unit_model.specs.EarlierUnits.{Square as UnitSquare, after, Surroundings, in_picture}
-use Rattle.hv_unit_model.specs.MostProbableModes.{planar, dc, candidates}
+use Rattle.hv_tree_model.specs.Trees.{Prediction, Intra, TransformUnit, Tree, Leaf, Split, Outside, greatest_size, log2TrafoSize, no_units}
+use Rattle.hv_tree_model.specs.Sites.{Site, squares, x0, y0, is_outside, must_split}
+use Rattle.hv_tree_model.specs.EarlierUnits.{Square as UnitSquare, after, Surroundings, in_picture}
+use Rattle.hv_tree_model.specs.MostProbableModes.{planar, dc, candidates}
 use Rattle.hv_unit_model.specs.BlockSyntax.{is_intra}
 use Rattle.hv_unit_model.specs.Bins.{luma_mode_bins, bins_of_node}
 use Rattle.hv_recon_model.specs.Reconstruction.{Component, Decoded, Square, square_at, chroma_of, quarter, predicted_block, decoded_unit, decoded_tree, sample_of}

@@ -1,12 +1,12 @@
 -- What is chosen may be coded, decodes to what the choice was made by, and is chosen in a block as in
 -- the picture.
 use Rattle.std.specs.Prelude.{◌≡◌, ℕ, ◌≤◌, List, [], Some}
-use Rattle.hv_unit_model.specs.Trees.{greatest_size}
-use Rattle.hv_unit_model.specs.Sites.{Site, x0, y0, sites}
-use Rattle.hv_unit_model.specs.EarlierUnits.{Square}
-use Rattle.hv_unit_model.specs.Plans.{Plan, UnitsAround, in_block}
+use Rattle.hv_tree_model.specs.Trees.{greatest_size}
+use Rattle.hv_tree_model.specs.Sites.{Site, x0, y0, sites}
+use Rattle.hv_tree_model.specs.EarlierUnits.{Square}
+use Rattle.hv_tree_model.specs.Plans.{Plan, UnitsAround, in_block}
 use Rattle.hv_unit_model.specs.PlanLaws.{ArePlansBefore, LieAround, squares_before}
-use Rattle.hv_unit_model.specs.Validity.{IsValidNode}
+use Rattle.hv_tree_model.specs.Validity.{IsValidNode}
 use Rattle.hv_recon_model.specs.Reconstruction.{Decoded, nothing_decoded, decoded_tree, decoded_trees}
 use Rattle.hv_recon_model.specs.ReconstructionLaws.{AreTrees, AreDecoded}
 use Rattle.hv_mode_model.specs.ModeDecision.{Given, Before, Task, decoded_behind, best, best_tree, best_trees, best_decoded}

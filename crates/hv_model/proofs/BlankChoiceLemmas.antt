@@ -11,11 +11,11 @@ use Rattle.hv_group_model.specs.Structure.{Coded, coding, rising}
 use Rattle.hv_group_model.proofs.NumberListLemmas.{length-rising}
 use Rattle.hv_stream_model.specs.Units.{unit_bytes}
 use Rattle.hv_stream_model.specs.Headers.{SliceHeader, parameter_sets}
-use Rattle.hv_unit_model.specs.Trees.{Tree, Leaf, Split, Outside, Intra, no_units, greatest_size}
-use Rattle.hv_unit_model.specs.Sites.{Site, squares, is_outside, crosses}
-use Rattle.hv_unit_model.specs.EarlierUnits.{Square}
-use Rattle.hv_unit_model.specs.MostProbableModes.{dc}
-use Rattle.hv_unit_model.specs.Validity.{is_empty}
+use Rattle.hv_tree_model.specs.Trees.{Tree, Leaf, Split, Outside, Intra, no_units, greatest_size}
+use Rattle.hv_tree_model.specs.Sites.{Site, squares, is_outside, crosses}
+use Rattle.hv_tree_model.specs.EarlierUnits.{Square}
+use Rattle.hv_tree_model.specs.MostProbableModes.{dc}
+use Rattle.hv_tree_model.specs.Validity.{is_empty}
 use Rattle.hv_recon_model.specs.Reconstruction.{Decoded, nothing_decoded}
 use Rattle.hv_recon_model.specs.BlankLaws.{BlankPicturesAreGrey}
 use Rattle.hv_filter_model.specs.SampleAdaptiveOffset.{off_param}

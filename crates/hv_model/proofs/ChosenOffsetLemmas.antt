@@ -9,7 +9,7 @@ use Rattle.hv_plan.specs.declared.offsets.SaoKind.{SaoKind}
 use Rattle.hv_plan.specs.declared.offsets.SaoKind.TheVariants.{Off, Band, Edge}
 use Rattle.hv_plan.specs.declared.offsets.SaoComponent.{SaoComponent}
 use Rattle.hv_plan.specs.declared.place.Place.{Place}
-use Rattle.hv_unit_model.specs.Validity.{Range, between, is_in, are_in, no_change, raising, lowering, either_way, IsKind, AreComponentOffsets, go_together, AreOffsets}
+use Rattle.hv_tree_model.specs.Validity.{Range, between, is_in, are_in, no_change, raising, lowering, either_way, IsKind, AreComponentOffsets, go_together, AreOffsets}
 use Rattle.hv_filter_model.specs.Blocks.{luma_side, chroma_side, blocks_over}
 use Rattle.hv_filter_model.specs.Costs.{cost}
 use Rattle.hv_filter_model.specs.OffsetBins.{own_bins, luma_bins}

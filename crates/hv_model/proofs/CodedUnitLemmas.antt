@@ -2,15 +2,15 @@
 use Rattle.std.proofs.Common.{◌≡◌, ℕ, zero, suc, ◌+◌, ◌*◌, ◌≤◌, Bool, true, false, cond, List, [], ◌∷◌, map, refl, ap, ◌∙◌, arith}
 use Rattle.std.specs.Prelude.{◌-◌, ◌^◌, replicate, pos, Some, option_map, All}
 use Rattle.std.specs.List.{list_all}
-use Rattle.hv_types.specs.declared.bins.SliceKind.TheVariants.{I}
+use Rattle.hv_tables.specs.declared.bins.SliceKind.TheVariants.{I}
 use Rattle.hv_types.specs.declared.settings.Settings.{Settings}
 use Rattle.hv_types.specs.Configuration.{IsValid, padded_width, padded_height}
 use Rattle.hv_stream_model.specs.Headers.{SliceHeader}
-use Rattle.hv_residual_model.specs.ResidualBins.{any_significant}
-use Rattle.hv_unit_model.specs.Trees.{Tree, Leaf, Split, Outside, Intra, no_levels, no_unit, no_units, log2TrafoSize, transform_units, any_level, greatest_size, CodingTreeUnit}
-use Rattle.hv_unit_model.specs.Sites.{Site, sites, squares, is_outside, crosses}
-use Rattle.hv_unit_model.specs.MostProbableModes.{dc}
-use Rattle.hv_unit_model.specs.Validity.{AreValid}
+use Rattle.hv_plan.specs.Levels.{any_significant}
+use Rattle.hv_tree_model.specs.Trees.{Tree, Leaf, Split, Outside, Intra, no_levels, no_unit, no_units, log2TrafoSize, transform_units, any_level, greatest_size, CodingTreeUnit}
+use Rattle.hv_tree_model.specs.Sites.{Site, sites, squares, is_outside, crosses}
+use Rattle.hv_tree_model.specs.MostProbableModes.{dc}
+use Rattle.hv_tree_model.specs.Validity.{AreValid}
 use Rattle.hv_filter_model.specs.OffLaws.{IsOff}
 use Rattle.hv_recon_model.specs.ReconstructionLaws.{AreTrees}
 use Rattle.hv_recon_model.specs.BlankLaws.{is_blank_tree, BlankPicturesAreGrey}

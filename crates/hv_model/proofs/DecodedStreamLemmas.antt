@@ -13,8 +13,8 @@ use Rattle.hv_stream_model.specs.Headers.{Size, vps, sps, pps, used_count, read_
 use Rattle.hv_stream_model.specs.HeaderLaws.{IsAllowed, OtherSlicesAreRead, OtherSlicesAreCodable, SlicesOfGroupsAreAllowed, header_of}
 use Rattle.hv_stream_model.specs.UnitLaws.{stream_of}
 use Rattle.hv_group_model.specs.Structure.{Coded, coding, blocks, anchors, qp_at, rising}
-use Rattle.hv_unit_model.specs.Trees.{CodingTreeUnit}
-use Rattle.hv_unit_model.specs.Validity.{AreValid}
+use Rattle.hv_tree_model.specs.Trees.{CodingTreeUnit}
+use Rattle.hv_tree_model.specs.Validity.{AreValid}
 use Rattle.hv_model.specs.PayloadLaws.{IsHeader, of_idr, of_other}
 use Rattle.hv_model.specs.Parsing.{CodedPicture, Sequence, begins_with_idr, in_front, cut_at_idrs, sequences_of, picture_of_unit, picture_then, pictures_of_units, parameters, with_parameters, sequences_after_sets, parsed_units}
 use Rattle.hv_model.specs.Decoding.{shown_sequence, shown_then, shown_of, decode_of}

@@ -6,7 +6,7 @@ use Rattle.hv_types.specs.declared.settings.Settings.{Settings}
 use Rattle.hv_types.specs.declared.picture.Picture.{Picture}
 use Rattle.hv_group_model.specs.Structure.{Coded, coding, rising}
 use Rattle.hv_stream_model.specs.Headers.{Size, most_count}
-use Rattle.hv_unit_model.specs.Trees.{CodingTreeUnit}
+use Rattle.hv_tree_model.specs.Trees.{CodingTreeUnit}
 use Rattle.hv_model.specs.Parsing.{CodedPicture}
 use Rattle.hv_model.specs.Reconstruction.{DecodedPicture}
 use Rattle.hv_model.specs.Decoding.{has_count, decoded_from, are_different, counts_of, decoded_sequence, by_count, cropped, shown_sequence}

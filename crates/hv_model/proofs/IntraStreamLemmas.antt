@@ -7,7 +7,7 @@ use Rattle.hv_stream_model.specs.HeaderLaws.{OtherSlicesAreRead, OtherSlicesAreC
 use Rattle.hv_stream_model.specs.Headers.{SliceHeader, size_of}
 use Rattle.hv_group_model.specs.Structure.{rising}
 use Rattle.hv_group_model.proofs.NumberListLemmas.{length-rising}
-use Rattle.hv_unit_model.specs.Trees.{CodingTreeUnit}
+use Rattle.hv_tree_model.specs.Trees.{CodingTreeUnit}
 use Rattle.hv_slice_model.specs.Slices.{list_0, header_in}
 use Rattle.hv_model.specs.Decoding.{decode_of}
 use Rattle.hv_model.specs.IntraPictures.{coded_units, recon_picture, input_picture, picture_shown, encode_group, encode_of}

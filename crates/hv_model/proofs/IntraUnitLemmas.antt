@@ -3,15 +3,15 @@
 use Rattle.std.proofs.Common.{◌≡◌, ℕ, zero, suc, ◌+◌, ◌*◌, List, [], ◌∷◌, length, map, refl, ap, ap₂, ◌∙◌, sym, arith}
 use Rattle.std.specs.Prelude.{Some, option_map}
 use Rattle.hv_lemmas.proofs.ListLemmas.{length-tabulate}
-use Rattle.hv_types.specs.declared.bins.SliceKind.{SliceKind}
+use Rattle.hv_tables.specs.declared.bins.SliceKind.{SliceKind}
 use Rattle.hv_types.specs.declared.settings.Settings.{Settings}
 use Rattle.hv_types.specs.declared.picture.Picture.{Picture}
 use Rattle.hv_types.specs.Configuration.{padded_width, padded_height}
 use Rattle.hv_plan.specs.declared.offsets.SaoParam.{SaoParam}
 use Rattle.hv_stream_model.specs.Headers.{SliceHeader, used_count}
-use Rattle.hv_unit_model.specs.Trees.{Tree, CodingTreeUnit}
-use Rattle.hv_unit_model.specs.Sites.{Site, blocks_over, sites_from, sites}
-use Rattle.hv_unit_model.specs.Validity.{AreOffsets, AreValid}
+use Rattle.hv_tree_model.specs.Trees.{Tree, CodingTreeUnit}
+use Rattle.hv_tree_model.specs.Sites.{Site, blocks_over, sites_from, sites}
+use Rattle.hv_tree_model.specs.Validity.{AreOffsets, AreValid}
 use Rattle.hv_recon_model.specs.Reconstruction.{nothing_decoded, picture_of, unfiltered as unfiltered_of}
 use Rattle.hv_recon_model.specs.ReconstructionLaws.{AreTrees}
 use Rattle.hv_filter_model.specs.OffsetDecision.{block_offsets}

@@ -11,7 +11,7 @@ use Rattle.hv_types.specs.declared.settings.Settings.{Settings}
 use Rattle.hv_types.specs.declared.picture.Picture.{Picture}
 use Rattle.hv_group_model.specs.Structure.{Coded, coded, coding, blocks, anchors, is_among, is_referred, is_kept, place_in, falling, rising}
 use Rattle.hv_stream_model.specs.Headers.{Size, SliceHeader}
-use Rattle.hv_unit_model.specs.Trees.{CodingTreeUnit}
+use Rattle.hv_tree_model.specs.Trees.{CodingTreeUnit}
 use Rattle.hv_slice_model.specs.Slices.{count_of, set_counts, list_0, header_in}
 use Rattle.hv_model.specs.Parsing.{CodedPicture}
 use Rattle.hv_model.specs.Reconstruction.{DecodedPicture, reconstructed}

@@ -3,17 +3,17 @@
 use Rattle.std.proofs.Common.{◌≡◌, ℕ, zero, suc, ◌%◌, ◌<◌, List, [], ◌∷◌, length, replicate, ap, ◌∙◌, subst, refl, arith}
 use Rattle.std.specs.Prelude.{slice_index_or}
 use Rattle.std.proofs.lemmas.Option.{get_or_from_slice_get}
-use Rattle.hv_types.specs.declared.bins.SliceKind.TheVariants.{I}
+use Rattle.hv_tables.specs.declared.bins.SliceKind.TheVariants.{I}
 use Rattle.hv_types.specs.declared.picture.Picture.{Picture}
 use Rattle.hv_types.specs.Video.{IsPicture}
 use Rattle.hv_plan.specs.declared.prediction.Mv.{Mv}
 use Rattle.hv_plan.specs.declared.prediction.Pred.{Pred}
 use Rattle.hv_plan.specs.declared.prediction.Pred.TheVariants.{Intra as IntraPred, Inter as InterPred}
-use Rattle.hv_unit_model.specs.Trees.{Intra, Inter, Tree, Leaf, Split, Outside, greatest_size, depth_of}
-use Rattle.hv_unit_model.specs.Sites.{Site, site, sites, squares}
-use Rattle.hv_unit_model.specs.EarlierUnits.{Square, Unavailable, Coded, squares_of}
-use Rattle.hv_unit_model.specs.Validity.{IsValidNode}
-use Rattle.hv_unit_model.specs.Plans.{Plan, prediction_of, square_or_none, tree_of}
+use Rattle.hv_tree_model.specs.Trees.{Intra, Inter, Tree, Leaf, Split, Outside, greatest_size, depth_of}
+use Rattle.hv_tree_model.specs.Sites.{Site, site, sites, squares}
+use Rattle.hv_tree_model.specs.EarlierUnits.{Square, Unavailable, Coded, squares_of}
+use Rattle.hv_tree_model.specs.Validity.{IsValidNode}
+use Rattle.hv_tree_model.specs.Plans.{Plan, prediction_of, square_or_none, tree_of}
 use Rattle.hv_recon_model.specs.ReconstructionLaws.{AreTrees}
 use Rattle.hv_filter_model.proofs.CostLemmas.{Each, each_append}
 use Rattle.hv_deblock_model.specs.Deblocking.{deblocked_picture}

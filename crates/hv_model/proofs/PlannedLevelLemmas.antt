@@ -4,13 +4,13 @@ use Rattle.std.proofs.Common.{◌≡◌, ℕ, zero, suc, ◌+◌, ◌*◌, ◌/�
 use Rattle.std.specs.Prelude.{slice_get, slice_index_or, Option, Some, None}
 use Rattle.hv_plan.specs.declared.prediction.Pred.{Pred}
 use Rattle.hv_plan.specs.declared.prediction.Unit.{Unit as SquareUnit}
-use Rattle.hv_residual_model.specs.ResidualBins.{any_significant}
-use Rattle.hv_unit_model.specs.Trees.{Prediction, Tree, Outside, Split}
-use Rattle.hv_unit_model.specs.Sites.{Site, squares, is_outside}
-use Rattle.hv_unit_model.specs.EarlierUnits.{Square, Unavailable, Coded, squares_of}
-use Rattle.hv_unit_model.specs.Plans.{Plan, prediction_of, part, leaf_of, leaf_at, is_leaf, tree_at}
+use Rattle.hv_plan.specs.Levels.{any_significant}
+use Rattle.hv_tree_model.specs.Trees.{Prediction, Tree, Outside, Split}
+use Rattle.hv_tree_model.specs.Sites.{Site, squares, is_outside}
+use Rattle.hv_tree_model.specs.EarlierUnits.{Square, Unavailable, Coded, squares_of}
+use Rattle.hv_tree_model.specs.Plans.{Plan, prediction_of, part, leaf_of, leaf_at, is_leaf, tree_at}
 use Rattle.hv_unit_model.proofs.AroundLemmas.{length-tree_at}
-use Rattle.hv_unit_model.proofs.NodeLemmas.{IsNode, child_of}
+use Rattle.hv_tree_model.proofs.NodeLemmas.{IsNode, child_of}
 use Rattle.hv_deblock_model.specs.CodedSquares.{has_luma_levels}
 use Rattle.hv_deblock_model.specs.TreeSquares.{levels_of}
 

@@ -7,13 +7,13 @@ use Rattle.std.proofs.lemmas.Option.{slice_get-get_or}
 use Rattle.hv_plan.specs.declared.prediction.Mv.{Mv}
 use Rattle.hv_plan.specs.declared.prediction.Pred.TheVariants.{Intra as IntraPred}
 use Rattle.hv_plan.specs.declared.prediction.Unit.{Unit}
-use Rattle.hv_unit_model.specs.Trees.{Tree, Outside, greatest_size}
-use Rattle.hv_unit_model.specs.Sites.{Site, site, sites, sites_from, blocks_over, address_of, is_outside, ctb_column, ctb_row}
-use Rattle.hv_unit_model.specs.EarlierUnits.{Square, Unavailable, squares_of}
-use Rattle.hv_unit_model.specs.Plans.{Plan, prediction_of, coded_square, square_or_none, tree_of}
+use Rattle.hv_tree_model.specs.Trees.{Tree, Outside, greatest_size}
+use Rattle.hv_tree_model.specs.Sites.{Site, site, sites, sites_from, blocks_over, address_of, is_outside, ctb_column, ctb_row}
+use Rattle.hv_tree_model.specs.EarlierUnits.{Square, Unavailable, squares_of}
+use Rattle.hv_tree_model.specs.Plans.{Plan, prediction_of, coded_square, square_or_none, tree_of}
 use Rattle.hv_unit_model.proofs.AroundLemmas.{length-tree_at}
 use Rattle.hv_unit_model.proofs.GeometryLemmas.{address_of_place}
-use Rattle.hv_unit_model.proofs.NodeLemmas.{IsNode}
+use Rattle.hv_tree_model.proofs.NodeLemmas.{IsNode}
 use Rattle.hv_deblock_model.specs.CodedSquares.{has_luma_levels, coding_of, square_of_plan}
 use Rattle.hv_deblock_model.specs.TreeSquares.{pred_of, square_coding, levels_of}
 use Rattle.hv_model.specs.PlannedPictures.{planned_trees, PlannedSquaresAreThoseOfTrees}

@@ -10,7 +10,7 @@ use Rattle.hv_stream_model.specs.Headers.{SliceHeader, used_count, size_of}
 use Rattle.hv_stream_model.specs.HeaderLaws.{OtherSlicesAreRead, OtherSlicesAreCodable, SlicesOfGroupsAreAllowed}
 use Rattle.hv_group_model.specs.Structure.{rising}
 use Rattle.hv_group_model.proofs.NumberListLemmas.{length-rising}
-use Rattle.hv_unit_model.specs.Trees.{CodingTreeUnit}
+use Rattle.hv_tree_model.specs.Trees.{CodingTreeUnit}
 use Rattle.hv_recon_model.specs.BlankLaws.{BlankPicturesAreGrey}
 use Rattle.hv_deblock_model.specs.FlatPictures.{FlatPicturesAreShown}
 use Rattle.hv_slice_model.specs.Slices.{list_0, picture_sites, header_in}
@@ -74,18 +74,18 @@ module _
 
 either_is : (a b : ℕ) → nat_eq a 0 || nat_eq b 1 ≡ true → (a ≡ 0) ⊎ (b ≡ 1)
 either_is a b e = by (nat_eq a 0) refl e
-    where
-      by : (test : Bool) → nat_eq a 0 ≡ test → test || nat_eq b 1 ≡ true → (a ≡ 0) ⊎ (b ≡ 1)
-      by true is e = inl (eqb-true a 0 is)
-      by false is e = inr (eqb-true b 1 e)
+  where
+    by : (test : Bool) → nat_eq a 0 ≡ test → test || nat_eq b 1 ≡ true → (a ≡ 0) ⊎ (b ≡ 1)
+    by true is e = inl (eqb-true a 0 is)
+    by false is e = inr (eqb-true b 1 e)
 
 is_either : (a b : ℕ) → (a ≡ 0) ⊎ (b ≡ 1) → nat_eq a 0 || nat_eq b 1 ≡ true
 is_either a b (inl e) = rw (eq-eqb a 0 e) refl
 is_either a b (inr e) = by (nat_eq a 0)
-    where
-      by : (test : Bool) → test || nat_eq b 1 ≡ true
-      by true = refl
-      by false = eq-eqb b 1 e
+  where
+    by : (test : Bool) → test || nat_eq b 1 ≡ true
+    by true = refl
+    by false = eq-eqb b 1 e
 
 from_test : (s : Settings) → IsValid s → is_built s ≡ true → IsBuilt s
 from_test s valid e = record { valid = valid; predicted = either_is s.effort s.group e }

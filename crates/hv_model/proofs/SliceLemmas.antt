@@ -1,8 +1,8 @@
 -- What is read of a slice is what it was made with.
 use Rattle.std.proofs.Common.{◌≡◌, ◌≢◌, ℕ, ◌+◌, ◌-◌, ◌%◌, ◌<◌, ◌≤◌, true, false, List, [], ◌++◌, length, refl, sym, ap, ◌∙◌, subst, arith, append_assoc, length-append, IsSomeAnd, ne_eqb}
 use Rattle.std.specs.Prelude.{nat_eq, Option, Some, None, option_and_then, option_map}
-use Rattle.hv_types.specs.declared.bins.SliceKind.{SliceKind}
-use Rattle.hv_types.specs.Bins.{Bin}
+use Rattle.hv_tables.specs.declared.bins.SliceKind.{SliceKind}
+use Rattle.hv_tables.specs.Bins.{Bin}
 use Rattle.hv_stream_model.specs.Bits.{bits_of, bytes_of}
 use Rattle.hv_stream_model.specs.BitLaws.{AreBits}
 use Rattle.hv_stream_model.specs.Scripts.{Reads}
@@ -13,9 +13,9 @@ use Rattle.hv_stream_model.specs.Units.{NalUnit, TRAIL_R}
 use Rattle.hv_stream_model.specs.Headers.{Size, SliceHeader, used_count, idr_slice, slice, read_slice}
 use Rattle.hv_stream_model.specs.HeaderLaws.{OtherSlicesAreRead, OtherSlicesAreCodable}
 use Rattle.hv_entropy_model.specs.Oracle.{Oracle, begin, read, bits_left}
-use Rattle.hv_unit_model.specs.Trees.{CodingTreeUnit}
-use Rattle.hv_unit_model.specs.Sites.{Site}
-use Rattle.hv_unit_model.specs.Validity.{AreValid}
+use Rattle.hv_tree_model.specs.Trees.{CodingTreeUnit}
+use Rattle.hv_tree_model.specs.Sites.{Site}
+use Rattle.hv_tree_model.specs.Validity.{AreValid}
 use Rattle.hv_unit_model.specs.Bins.{slice_bins}
 use Rattle.hv_unit_model.specs.BlockSyntax.{slice_segment_data}
 use Rattle.hv_slice_model.specs.Slices.{idr_header, nal_unit_type_of, header_fields, word_behind, payload_of_slice, unit_of_slice}

@@ -3,7 +3,7 @@
 -- of them, computed by the definitions.
 use Rattle.std.proofs.Common.{◌≡◌, ℕ, Bool, true, false, List, [], ◌∷◌, refl}
 use Rattle.std.specs.Prelude.{Some, None, replicate}
-use Rattle.hv_types.specs.declared.bins.SliceKind.TheVariants.{P}
+use Rattle.hv_tables.specs.declared.bins.SliceKind.TheVariants.{P}
 use Rattle.hv_types.specs.declared.settings.Settings.{Settings}
 use Rattle.hv_types.specs.declared.settings.Emit.TheVariants.{Stream}
 use Rattle.hv_types.specs.Video.{crop}
@@ -18,10 +18,10 @@ use Rattle.hv_stream_model.specs.Fields.{log2_of}
 use Rattle.hv_group_model.specs.Structure.{Kept}
 use Rattle.hv_stream_model.specs.Headers.{SliceHeader}
 use Rattle.hv_residual_model.specs.Binarization.{truncated_unary, truncated_unary_bins}
-use Rattle.hv_unit_model.specs.Trees.{no_levels, no_units}
-use Rattle.hv_unit_model.specs.Sites.{sites, column_of, row_of, address_of, crosses, is_outside}
-use Rattle.hv_unit_model.specs.EarlierUnits.{look_picture}
-use Rattle.hv_unit_model.specs.MostProbableModes.{candModeList, mode_of_remaining}
+use Rattle.hv_tree_model.specs.Trees.{no_levels, no_units}
+use Rattle.hv_tree_model.specs.Sites.{sites, column_of, row_of, address_of, crosses, is_outside}
+use Rattle.hv_tree_model.specs.EarlierUnits.{look_picture}
+use Rattle.hv_tree_model.specs.MostProbableModes.{candModeList, mode_of_remaining}
 use Rattle.hv_unit_model.specs.BlockSyntax.{sao, luma_mode, block_levels, transform_unit, quarters, transform_tree, intra_unit, coding_unit, coding_quadtree}
 use Rattle.hv_unit_model.specs.Bins.{sao_bins, luma_mode_bins, transform_unit_bins, quarters_bins, transform_tree_bins, predicted_bins, bins_of_node}
 use Rattle.hv_slice_model.specs.BlankUnits.{blank_node}

@@ -15,10 +15,10 @@ use Rattle.hv_residual_model.specs.ResidualSyntax.{last_sig_coeff, sig_coeff_fla
 use Rattle.hv_sample_model.specs.Blocks.{sum_of, total_of}
 use Rattle.hv_sample_model.specs.IntraPrediction.{predicted}
 use Rattle.hv_sample_model.specs.InverseTransform.{residual}
-use Rattle.hv_unit_model.specs.Trees.{Motion, Intra, Inter, Tree, Leaf, Split, Outside, CodingTreeUnit, no_levels, no_units}
-use Rattle.hv_unit_model.specs.Sites.{sites, column_of, row_of, address_of, crosses, is_outside}
-use Rattle.hv_unit_model.specs.EarlierUnits.{look_picture}
-use Rattle.hv_unit_model.specs.MostProbableModes.{candModeList, mode_of_remaining}
+use Rattle.hv_tree_model.specs.Trees.{Motion, Intra, Inter, Tree, Leaf, Split, Outside, CodingTreeUnit, no_levels, no_units}
+use Rattle.hv_tree_model.specs.Sites.{sites, column_of, row_of, address_of, crosses, is_outside}
+use Rattle.hv_tree_model.specs.EarlierUnits.{look_picture}
+use Rattle.hv_tree_model.specs.MostProbableModes.{candModeList, mode_of_remaining}
 use Rattle.hv_unit_model.specs.BlockSyntax.{sao, luma_mode, block_levels, transform_unit, quarters, transform_tree, intra_unit, coding_unit, coding_quadtree}
 use Rattle.hv_recon_model.specs.Reconstruction.{decoded_block, decoded_tree, decoded_trees, unfiltered}
 use Rattle.hv_slice_model.specs.BlankUnits.{no_offset, no_offsets}

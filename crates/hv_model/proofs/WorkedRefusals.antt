@@ -12,10 +12,10 @@ use Rattle.hv_lemmas.specs.Lists.{tabulate}
 use Rattle.hv_residual_model.specs.Binarization.{truncated_unary, exp_golomb, coeff_abs_level_remaining}
 use Rattle.hv_residual_model.specs.ScanOrder.{scan_order, block_position, block_number}
 use Rattle.hv_residual_model.specs.ResidualSyntax.{last_sig_coeff, sig_coeff_flags, greater1_flags, levels_of_flags, positions, sub_blocks_below, residual_coding}
-use Rattle.hv_unit_model.specs.Trees.{no_levels, no_units}
-use Rattle.hv_unit_model.specs.Sites.{sites, column_of, row_of, address_of, crosses, is_outside}
-use Rattle.hv_unit_model.specs.EarlierUnits.{look_picture}
-use Rattle.hv_unit_model.specs.MostProbableModes.{candModeList, mode_of_remaining}
+use Rattle.hv_tree_model.specs.Trees.{no_levels, no_units}
+use Rattle.hv_tree_model.specs.Sites.{sites, column_of, row_of, address_of, crosses, is_outside}
+use Rattle.hv_tree_model.specs.EarlierUnits.{look_picture}
+use Rattle.hv_tree_model.specs.MostProbableModes.{candModeList, mode_of_remaining}
 use Rattle.hv_unit_model.specs.BlockSyntax.{sao, luma_mode, block_levels, transform_unit, quarters, transform_tree, intra_unit, coding_unit, coding_quadtree}
 use Rattle.hv_stream_model.specs.Units.{NalUnit, IsUnit, IsByteStream, end, more, strip, last_of, units_of}
 use Rattle.hv_types.specs.Video.{crop}

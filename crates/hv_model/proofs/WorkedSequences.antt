@@ -1,8 +1,8 @@
 -- Which pictures of a sequence are decoded, kept and shown, computed by the definitions.
 use Rattle.std.proofs.Common.{◌≡◌, ℕ, Bool, true, false, List, [], ◌∷◌, map, refl}
 use Rattle.std.specs.Prelude.{Option, Some, None, option_map}
-use Rattle.hv_types.specs.declared.bins.SliceKind.{SliceKind}
-use Rattle.hv_types.specs.declared.bins.SliceKind.TheVariants.{I, P}
+use Rattle.hv_tables.specs.declared.bins.SliceKind.{SliceKind}
+use Rattle.hv_tables.specs.declared.bins.SliceKind.TheVariants.{I, P}
 use Rattle.hv_types.specs.Video.{crop}
 use Rattle.hv_lemmas.specs.Lists.{tabulate}
 use Rattle.hv_sample_model.specs.Blocks.{sum_of, total_of}
@@ -10,8 +10,8 @@ use Rattle.hv_sample_model.specs.IntraPrediction.{predicted}
 use Rattle.hv_sample_model.specs.InverseTransform.{residual}
 use Rattle.hv_group_model.specs.Structure.{Kept}
 use Rattle.hv_stream_model.specs.Headers.{Size, SliceHeader}
-use Rattle.hv_unit_model.specs.Trees.{no_levels, no_units}
-use Rattle.hv_unit_model.specs.Sites.{sites, column_of, row_of, crosses, is_outside}
+use Rattle.hv_tree_model.specs.Trees.{no_levels, no_units}
+use Rattle.hv_tree_model.specs.Sites.{sites, column_of, row_of, crosses, is_outside}
 use Rattle.hv_slice_model.specs.BlankUnits.{blank_node}
 use Rattle.hv_slice_model.specs.Slices.{idr_header, set_counts, list_0}
 use Rattle.hv_model.specs.Parsing.{CodedPicture, Sequence, sequences_of, cut_at_idrs}

@@ -11,8 +11,8 @@ use Rattle.hv_stream_model.specs.Headers.{SliceHeader, vps, sps, pps, parameter_
 use Rattle.hv_stream_model.specs.UnitLaws.{AreUnits, stream_of}
 use Rattle.hv_stream_model.proofs.FieldLemmas.{last_of-aligned}
 use Rattle.hv_group_model.specs.Structure.{Coded, coding}
-use Rattle.hv_unit_model.specs.Sites.{Site}
-use Rattle.hv_unit_model.specs.Trees.{CodingTreeUnit}
+use Rattle.hv_tree_model.specs.Sites.{Site}
+use Rattle.hv_tree_model.specs.Trees.{CodingTreeUnit}
 use Rattle.hv_slice_model.specs.Slices.{is_idr, unit_of_slice, picture_sites, header_in}
 use Rattle.hv_model.specs.Parsing.{is_passed_over}
 use Rattle.hv_model.specs.Encoding.{groups_of}

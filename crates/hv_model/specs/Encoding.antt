@@ -10,8 +10,8 @@ use Rattle.hv_types.specs.Video.{raw, crop}
 use Rattle.hv_stream_model.specs.Units.{unit_bytes}
 use Rattle.hv_stream_model.specs.Headers.{parameter_sets}
 use Rattle.hv_group_model.specs.Structure.{coding}
-use Rattle.hv_unit_model.specs.Trees.{CodingTreeUnit}
-use Rattle.hv_unit_model.specs.Sites.{Site}
+use Rattle.hv_tree_model.specs.Trees.{CodingTreeUnit}
+use Rattle.hv_tree_model.specs.Sites.{Site}
 use Rattle.hv_slice_model.specs.BlankUnits.{blank_units}
 use Rattle.hv_slice_model.specs.Slices.{picture_sites, header_in, unit_of_slice}
 use Rattle.hv_recon_model.specs.BlankLaws.{grey}

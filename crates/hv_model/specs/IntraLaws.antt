@@ -4,7 +4,7 @@ use Rattle.hv_types.specs.declared.settings.Settings.{Settings}
 use Rattle.hv_types.specs.declared.picture.Picture.{Picture}
 use Rattle.hv_types.specs.Configuration.{IsValid, padded_width, padded_height}
 use Rattle.hv_stream_model.specs.Headers.{SliceHeader, used_count}
-use Rattle.hv_unit_model.specs.Validity.{AreValid}
+use Rattle.hv_tree_model.specs.Validity.{AreValid}
 use Rattle.hv_slice_model.specs.Slices.{picture_sites}
 use Rattle.hv_model.specs.Reconstruction.{DecodedPicture, reconstructed}
 use Rattle.hv_model.specs.Decoding.{decode_of}

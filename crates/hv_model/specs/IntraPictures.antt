@@ -13,9 +13,9 @@ use Rattle.hv_plan.specs.declared.offsets.SaoParam.{SaoParam}
 use Rattle.hv_group_model.specs.Structure.{coding, rising}
 use Rattle.hv_stream_model.specs.Units.{unit_bytes}
 use Rattle.hv_stream_model.specs.Headers.{SliceHeader, used_count, parameter_sets}
-use Rattle.hv_unit_model.specs.Trees.{Tree, CodingTreeUnit}
-use Rattle.hv_unit_model.specs.Sites.{Site}
-use Rattle.hv_unit_model.specs.Validity.{is_empty}
+use Rattle.hv_tree_model.specs.Trees.{Tree, CodingTreeUnit}
+use Rattle.hv_tree_model.specs.Sites.{Site}
+use Rattle.hv_tree_model.specs.Validity.{is_empty}
 use Rattle.hv_recon_model.specs.Reconstruction.{nothing_decoded, picture_of}
 use Rattle.hv_filter_model.specs.FlatPictures.{flat_picture}
 use Rattle.hv_deblock_model.specs.EdgeStrength.{Squares}

@@ -2,15 +2,15 @@
 -- where it isn't a stream of this profile.
 use Rattle.std.specs.Prelude.{ℕ, ◌+◌, ◌-◌, ◌%◌, Bool, false, cond, not, nat_eq, nat_lt, nat_le, ◌&&◌, ◌||◌, List, [], ◌∷◌, length, take, drop, map, filter, replicate, Option, Some, None, option_and_then, option_map}
 use Rattle.std.specs.List.{list_all}
-use Rattle.hv_types.specs.declared.bins.SliceKind.{SliceKind}
+use Rattle.hv_tables.specs.declared.bins.SliceKind.{SliceKind}
 use Rattle.hv_stream_model.specs.Bits.{bits_of}
 use Rattle.hv_stream_model.specs.Scripts.{Done, ◌>>=◌}
 use Rattle.hv_stream_model.specs.Fields.{HeaderScript, read_header}
 use Rattle.hv_stream_model.specs.Units.{NalUnit, TRAIL_R, IDR_N_LP, VPS_NUT, SPS_NUT, PPS_NUT, units_of, is_zero, same_bytes, last_of}
 use Rattle.hv_stream_model.specs.Headers.{Size, SliceHeader, used_count, read_vps, read_sps, read_pps, read_idr_slice, read_slice}
 use Rattle.hv_entropy_model.specs.Oracle.{Oracle, begin, read, bits_left}
-use Rattle.hv_unit_model.specs.Trees.{CodingTreeUnit}
-use Rattle.hv_unit_model.specs.Sites.{Site, sites}
+use Rattle.hv_tree_model.specs.Trees.{CodingTreeUnit}
+use Rattle.hv_tree_model.specs.Sites.{Site, sites}
 use Rattle.hv_unit_model.specs.BlockSyntax.{slice_segment_data}
 use Rattle.hv_slice_model.specs.Slices.{idr_header, is_idr}
 

@@ -1,6 +1,6 @@
 -- What is read of a payload is what it was made with.
 use Rattle.std.specs.Prelude.{◌≡◌, ◌≢◌, ℕ, ◌%◌, ◌<◌, ◌≤◌, List, [], ◌++◌, length, replicate, Some}
-use Rattle.hv_types.specs.declared.bins.SliceKind.{SliceKind}
+use Rattle.hv_tables.specs.declared.bins.SliceKind.{SliceKind}
 use Rattle.hv_types.specs.Configuration.{most_levels}
 use Rattle.hv_stream_model.specs.Bits.{bytes_of}
 use Rattle.hv_stream_model.specs.Scripts.{Reads}
@@ -9,9 +9,9 @@ use Rattle.hv_stream_model.specs.Units.{NalUnit}
 use Rattle.hv_stream_model.specs.Headers.{Size, SliceHeader, used_count}
 use Rattle.hv_stream_model.specs.HeaderLaws.{IsAllowedSlice}
 use Rattle.hv_entropy_model.specs.CodeWord.{word}
-use Rattle.hv_unit_model.specs.Trees.{CodingTreeUnit}
-use Rattle.hv_unit_model.specs.Sites.{Site}
-use Rattle.hv_unit_model.specs.Validity.{AreValid}
+use Rattle.hv_tree_model.specs.Trees.{CodingTreeUnit}
+use Rattle.hv_tree_model.specs.Sites.{Site}
+use Rattle.hv_tree_model.specs.Validity.{AreValid}
 use Rattle.hv_unit_model.specs.Bins.{slice_bins}
 use Rattle.hv_slice_model.specs.Slices.{idr_header, unit_of_slice}
 use Rattle.hv_model.specs.Parsing.{parameters, behind_alignment, slice_data, sites_of, picture_of_unit}

@@ -2,9 +2,9 @@
 -- (8.7.2), is by the plans what it is by their trees, as a decoder has them.
 use Rattle.std.specs.Prelude.{◌≡◌, ℕ, ◌+◌, ◌*◌, ◌/◌, ◌%◌, ◌<◌, List, [], ◌∷◌, length, slice_get, Some}
 use Rattle.hv_plan.specs.declared.prediction.Unit.{Unit}
-use Rattle.hv_unit_model.specs.Trees.{Tree}
-use Rattle.hv_unit_model.specs.Sites.{Site, blocks_over, address_of, sites}
-use Rattle.hv_unit_model.specs.Plans.{Plan, prediction_of, tree_of}
+use Rattle.hv_tree_model.specs.Trees.{Tree}
+use Rattle.hv_tree_model.specs.Sites.{Site, blocks_over, address_of, sites}
+use Rattle.hv_tree_model.specs.Plans.{Plan, prediction_of, tree_of}
 use Rattle.hv_slice_model.specs.PlannedUnits.{NameTheirUnits}
 use Rattle.hv_deblock_model.specs.CodedSquares.{squares_of_plans}
 use Rattle.hv_deblock_model.specs.TreeSquares.{Vectors, pred_of, squares_of_trees}

@@ -3,8 +3,8 @@
 use Rattle.std.specs.Prelude.{ℕ, List, map, Option, option_map, pos}
 use Rattle.hv_types.specs.declared.picture.Picture.{Picture}
 use Rattle.hv_stream_model.specs.Headers.{SliceHeader}
-use Rattle.hv_unit_model.specs.Trees.{CodingTreeUnit}
-use Rattle.hv_unit_model.specs.Sites.{sites}
+use Rattle.hv_tree_model.specs.Trees.{CodingTreeUnit}
+use Rattle.hv_tree_model.specs.Sites.{sites}
 use Rattle.hv_recon_model.specs.Reconstruction.{unfiltered}
 use Rattle.hv_deblock_model.specs.TreeSquares.{Vectors, squares_of_trees}
 use Rattle.hv_deblock_model.specs.InLoopFilters.{filtered_picture as filtered_with}

@@ -1,15 +1,15 @@
 -- The plans before a block of a picture, and the bins of a block by what lies around it.
 use Rattle.std.proofs.Common.{◌≡◌, ℕ, ◌≤◌, List, [], ◌∷◌, length, take, ap, arith}
 use Rattle.std.proofs.lemmas.List.{length-take-le}
-use Rattle.hv_types.specs.declared.bins.SliceKind.{SliceKind}
-use Rattle.hv_types.specs.Bins.{terminate_bin}
+use Rattle.hv_tables.specs.declared.bins.SliceKind.{SliceKind}
+use Rattle.hv_tables.specs.Bins.{terminate_bin}
 use Rattle.std.specs.Prelude.{map, ◌++◌}
 use Rattle.hv_residual_model.specs.UnitBins.{UnitBin, slice_bin}
-use Rattle.hv_unit_model.specs.Trees.{CodingTreeUnit, greatest_size}
-use Rattle.hv_unit_model.specs.Sites.{Site, site}
-use Rattle.hv_unit_model.specs.EarlierUnits.{in_picture}
+use Rattle.hv_tree_model.specs.Trees.{CodingTreeUnit, greatest_size}
+use Rattle.hv_tree_model.specs.Sites.{Site, site}
+use Rattle.hv_tree_model.specs.EarlierUnits.{in_picture}
 use Rattle.hv_unit_model.specs.Bins.{sao_bins, bins}
-use Rattle.hv_unit_model.specs.Plans.{Plan, UnitsAround, in_block}
+use Rattle.hv_tree_model.specs.Plans.{Plan, UnitsAround, in_block}
 use Rattle.hv_unit_model.specs.PlanLaws.{ArePlansBefore, LieAround, squares_before}
 use Rattle.hv_unit_model.proofs.SeenBinsLemmas.{bins_in_block}
 use Rattle.hv_slice_model.specs.PlannedUnits.{NameTheirUnits}

@@ -4,22 +4,22 @@ use Rattle.std.specs.Prelude.{nat_eq, nat_lt, nat_le, ◌||◌, ◌⊎◌}
 use Rattle.std.proofs.lemmas.List.{map-append}
 use Rattle.std.proofs.lemmas.Bool.{cases_lt, or_parts, ltb-false}
 use Rattle.std.proofs.lemmas.Bool.Decides.{nat_tests}
-use Rattle.hv_types.specs.declared.bins.SliceKind.{SliceKind}
-use Rattle.hv_types.specs.declared.bins.SliceKind.TheVariants.{I, P}
-use Rattle.hv_types.specs.declared.bins.CtxTable.TheVariants.{Split as SplitFlag, PartMode, ChromaMode}
-use Rattle.hv_types.specs.Bins.{Bin, terminate_bin}
+use Rattle.hv_tables.specs.declared.bins.SliceKind.{SliceKind}
+use Rattle.hv_tables.specs.declared.bins.SliceKind.TheVariants.{I, P}
+use Rattle.hv_tables.specs.declared.bins.CtxTable.TheVariants.{Split as SplitFlag, PartMode, ChromaMode}
+use Rattle.hv_tables.specs.Bins.{Bin, terminate_bin}
 use Rattle.hv_plan.specs.declared.offsets.SaoKind.TheVariants.{Off}
 use Rattle.hv_residual_model.specs.UnitBins.{UnitBin, slice_bin}
 use Rattle.hv_residual_model.specs.Binarization.{truncated_unary_bins}
-use Rattle.hv_unit_model.specs.Trees.{Tree, Leaf, Split, Outside, Intra, depth_of, greatest_size, side, no_levels, no_units}
-use Rattle.hv_unit_model.specs.Sites.{Site, site, sites, sites_from, blocks_over, has_left, has_above, x0, y0, column_of, row_of, squares, is_outside, crosses}
-use Rattle.hv_unit_model.specs.EarlierUnits.{Square, Unavailable, Coded, squares_of, after, in_picture, split_ctxInc}
-use Rattle.hv_unit_model.specs.MostProbableModes.{dc, candidates}
-use Rattle.hv_unit_model.specs.Validity.{IsValidNode}
+use Rattle.hv_tree_model.specs.Trees.{Tree, Leaf, Split, Outside, Intra, depth_of, greatest_size, side, no_levels, no_units}
+use Rattle.hv_tree_model.specs.Sites.{Site, site, sites, sites_from, blocks_over, has_left, has_above, x0, y0, column_of, row_of, squares, is_outside, crosses}
+use Rattle.hv_tree_model.specs.EarlierUnits.{Square, Unavailable, Coded, squares_of, after, in_picture, split_ctxInc}
+use Rattle.hv_tree_model.specs.MostProbableModes.{dc, candidates}
+use Rattle.hv_tree_model.specs.Validity.{IsValidNode}
 use Rattle.hv_unit_model.specs.Bins.{bin, merge_bins, sao_type_bins, sao_bins, luma_mode_bins, transform_unit_bins, quarters_bins, transform_tree_bins, pred_mode_bins, predicted_bins, bins_of_node, slice_bins, slice_bins_from}
 use Rattle.hv_unit_model.proofs.TransformLemmas.{no_units_valid}
 use Rattle.hv_unit_model.proofs.SquareLemmas.{length-squares}
-use Rattle.hv_unit_model.proofs.NodeLemmas.{IsNode, around, square_in_node, around_own, child_of, squares_above_0, below_4_times}
+use Rattle.hv_tree_model.proofs.NodeLemmas.{IsNode, around, square_in_node, around_own, child_of, squares_above_0, below_4_times}
 use Rattle.hv_unit_model.proofs.BlankLemmas.{IsBlank, AllBlank, LiesInside, none_blank, blank_nowhere, blank_then, blank_alike, ParentsCross, leaf_square, left_is_flat, above_is_flat, dc_candidates}
 use Rattle.hv_slice_model.specs.BlankUnits.{no_offsets, blank_node, blank_tree, blank_units}
 use Rattle.hv_packet.specs.BlankBins as put

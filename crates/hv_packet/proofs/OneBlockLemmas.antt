@@ -5,17 +5,17 @@ use Rattle.std.proofs.lemmas.Bool.{false≢true}
 use Rattle.std.proofs.lemmas.List.{get_or-replicate, length-replicate}
 use Rattle.std.proofs.lemmas.Option.{slice_get-get_or}
 use Rattle.hv_lemmas.proofs.OptionLemmas.{some_same}
-use Rattle.hv_types.specs.declared.bins.SliceKind.{SliceKind}
+use Rattle.hv_tables.specs.declared.bins.SliceKind.{SliceKind}
 use Rattle.hv_types.specs.declared.settings.Settings.{Settings}
 use Rattle.hv_types.specs.Configuration.{padded_width, padded_height}
 use Rattle.hv_plan.specs.declared.offsets.SaoParam.{SaoParam}
 use Rattle.hv_plan.specs.declared.prediction.Unit.{Unit}
 use Rattle.hv_block.specs.Plans.{opening_plan, opening_unit}
-use Rattle.hv_unit_model.specs.Trees.{Leaf, Intra, no_units, no_levels}
-use Rattle.hv_unit_model.specs.Sites.{site, sites, is_outside, crosses, column_of, row_of}
-use Rattle.hv_unit_model.specs.EarlierUnits.{Unavailable, squares_of}
-use Rattle.hv_unit_model.specs.Validity.{AreValid}
-use Rattle.hv_unit_model.specs.Plans.{Plan, tree_at, tree_of, coded_square, square_or_none, NamesItsUnits}
+use Rattle.hv_tree_model.specs.Trees.{Leaf, Intra, no_units, no_levels}
+use Rattle.hv_tree_model.specs.Sites.{site, sites, is_outside, crosses, column_of, row_of}
+use Rattle.hv_tree_model.specs.EarlierUnits.{Unavailable, squares_of}
+use Rattle.hv_tree_model.specs.Validity.{AreValid}
+use Rattle.hv_tree_model.specs.Plans.{Plan, tree_at, tree_of, coded_square, square_or_none, NamesItsUnits}
 use Rattle.hv_syntax.specs.Neighbours.{lists_of_plan}
 use Rattle.hv_slice_model.specs.BlankUnits.{no_offsets, blank_node, blank_units}
 use Rattle.hv_slice_model.specs.Slices.{picture_sites}

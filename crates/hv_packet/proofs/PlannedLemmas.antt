@@ -5,15 +5,15 @@ use Rattle.std.proofs.lemmas.Bool.{false≢true, cases_lt}
 use Rattle.std.proofs.lemmas.List.{length-take-le}
 use Rattle.std.proofs.lemmas.Option.{slice_get_within}
 use Rattle.hv_lemmas.proofs.OptionLemmas.{some_same}
-use Rattle.hv_types.specs.declared.bins.SliceKind.{SliceKind}
-use Rattle.hv_types.specs.Bins.{Bin}
+use Rattle.hv_tables.specs.declared.bins.SliceKind.{SliceKind}
+use Rattle.hv_tables.specs.Bins.{Bin}
 use Rattle.hv_plan.specs.declared.offsets.SaoParam.{SaoParam}
-use Rattle.hv_unit_model.specs.Trees.{CodingTreeUnit, greatest_size}
-use Rattle.hv_unit_model.specs.Sites.{Site, site, sites, sites_from, blocks_over}
-use Rattle.hv_unit_model.specs.EarlierUnits.{Square, squares_of, in_picture}
-use Rattle.hv_unit_model.specs.Validity.{is_empty}
+use Rattle.hv_tree_model.specs.Trees.{CodingTreeUnit, greatest_size}
+use Rattle.hv_tree_model.specs.Sites.{Site, site, sites, sites_from, blocks_over}
+use Rattle.hv_tree_model.specs.EarlierUnits.{Square, squares_of, in_picture}
+use Rattle.hv_tree_model.specs.Validity.{is_empty}
 use Rattle.hv_unit_model.specs.Bins.{bins, slice_bins, slice_bins_from}
-use Rattle.hv_unit_model.specs.Plans.{Plan, IsPlan, tree_of}
+use Rattle.hv_tree_model.specs.Plans.{Plan, IsPlan, tree_of}
 use Rattle.hv_unit_model.specs.PlanLaws.{squares_of_plans, squares_before}
 use Rattle.hv_unit_model.proofs.AroundLemmas.{plans_are_appended}
 use Rattle.hv_slice_model.specs.PlannedUnits.{planned_units}

@@ -1,7 +1,7 @@
 -- What calls put into a sink, one after another.
 use Rattle.std.proofs.Common.{◌≡◌, ℕ, List, [], ◌++◌, sym, subst, append_assoc, append-nil}
-use Rattle.hv_types.specs.declared.bins.SliceKind.{SliceKind}
-use Rattle.hv_types.specs.Bins.{Bin, Puts}
+use Rattle.hv_tables.specs.declared.bins.SliceKind.{SliceKind}
+use Rattle.hv_tables.specs.Bins.{Bin, Puts}
 
 module _ {S : Type 0} (stands_for : S → SliceKind → ℕ → List Bin → Type 0) where
   pub puts_nothing : (a : S) → Puts stands_for a a []

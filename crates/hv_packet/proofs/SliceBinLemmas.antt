@@ -3,9 +3,9 @@ use Rattle.std.proofs.Common.{◌≡◌, ℕ, zero, suc, ◌+◌, ◌-◌, ◌*�
 use Rattle.std.specs.Prelude.{nat_eq}
 use Rattle.std.specs.Int.{div_ceil}
 use Rattle.std.proofs.lemmas.Bool.{ne_eqb}
-use Rattle.hv_types.specs.declared.bins.SliceKind.{SliceKind}
-use Rattle.hv_unit_model.specs.Sites.{blocks_over, sites_from}
-use Rattle.hv_unit_model.specs.Validity.{is_empty}
+use Rattle.hv_tables.specs.declared.bins.SliceKind.{SliceKind}
+use Rattle.hv_tree_model.specs.Sites.{blocks_over, sites_from}
+use Rattle.hv_tree_model.specs.Validity.{is_empty}
 use Rattle.hv_packet.specs.BlankBins.{block_bins, blocks_bins, picture_bins}
 
 -- as the code counts the blocks over so many samples

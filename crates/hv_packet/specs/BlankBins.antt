@@ -1,13 +1,13 @@
 -- The bins of a picture in which nothing is chosen (7.3.8), as the code puts them: from how much of
 -- the picture there is behind a node's corner, and without a look at the node's neighbours.
 use Rattle.std.specs.Prelude.{ℕ, zero, suc, ◌+◌, ◌-◌, ◌*◌, ◌/◌, ◌%◌, Bool, true, false, cond, nat_eq, nat_lt, ◌||◌, List, [], ◌∷◌, ◌++◌}
-use Rattle.hv_types.specs.declared.bins.SliceKind.{SliceKind}
-use Rattle.hv_types.specs.declared.bins.SliceKind.TheVariants.{I, P}
-use Rattle.hv_types.specs.declared.bins.CtxTable.{CtxTable}
-use Rattle.hv_types.specs.declared.bins.CtxTable.TheVariants.{Split, Skip, PredMode, PartMode, PrevIntra, ChromaMode, CbfLuma, CbfChroma, SaoMerge, SaoType}
-use Rattle.hv_types.specs.Bins.{Bin, context_bin, bypass_bin, terminate_bin}
-use Rattle.hv_unit_model.specs.Trees.{side, greatest_size}
-use Rattle.hv_unit_model.specs.Sites.{ctb_side, blocks_over}
+use Rattle.hv_tables.specs.declared.bins.SliceKind.{SliceKind}
+use Rattle.hv_tables.specs.declared.bins.SliceKind.TheVariants.{I, P}
+use Rattle.hv_tables.specs.declared.bins.CtxTable.{CtxTable}
+use Rattle.hv_tables.specs.declared.bins.CtxTable.TheVariants.{Split, Skip, PredMode, PartMode, PrevIntra, ChromaMode, CbfLuma, CbfChroma, SaoMerge, SaoType}
+use Rattle.hv_tables.specs.Bins.{Bin, context_bin, bypass_bin, terminate_bin}
+use Rattle.hv_tree_model.specs.Trees.{side, greatest_size}
+use Rattle.hv_tree_model.specs.Sites.{ctb_side, blocks_over}
 
 abbrev pub bin : CtxTable → ℕ → Bool → Bin
 bin table ctxInc value = context_bin (record { table = table; index = ctxInc }) value

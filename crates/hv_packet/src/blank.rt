@@ -1,10 +1,10 @@
 //! The data of the slice of a picture in which nothing is chosen.
 
 ghost use Rattle.std.specs.Prelude.{◌≡◌, ◌*◌, ◌^◌, ◌<◌, ◌≤◌, [], ◌∷◌, ◌++◌, IfOk};
-ghost use Rattle.hv_types.specs.Bins.{Puts};
+ghost use Rattle.hv_tables.specs.Bins.{Puts};
 ghost use Rattle.hv_stream_model.specs.Bits.{bytes_of};
 ghost use Rattle.hv_entropy_model.specs.CodeWord.{word};
-ghost use Rattle.hv_unit_model.specs.Sites.{sites};
+ghost use Rattle.hv_tree_model.specs.Sites.{sites};
 ghost use Rattle.hv_unit_model.specs.Bins.{slice_bins};
 ghost use Rattle.hv_slice_model.specs.BlankUnits.{blank_units};
 ghost use Rattle.hv_packet.specs.BlankBins.{bin, mode_bins, part_bins, prediction_bins, luma_bins};

@@ -1,14 +1,14 @@
 //! The data of a slice from the blocks of a picture.
 
 ghost use Rattle.std.specs.Prelude.{◌≡◌, ◌+◌, ◌*◌, length, slice_get, take, Some, IfOk};
-ghost use Rattle.hv_types.specs.Bins.{Puts};
+ghost use Rattle.hv_tables.specs.Bins.{Puts};
 ghost use Rattle.hv_stream_model.specs.Bits.{bytes_of};
 ghost use Rattle.hv_entropy_model.specs.CodeWord.{word};
-ghost use Rattle.hv_unit_model.specs.Sites.{site, sites, blocks_over};
-ghost use Rattle.hv_unit_model.specs.Validity.{AreValid};
+ghost use Rattle.hv_tree_model.specs.Sites.{site, sites, blocks_over};
+ghost use Rattle.hv_tree_model.specs.Validity.{AreValid};
 ghost use Rattle.hv_unit_model.specs.Bins.{bins, slice_bins};
-ghost use Rattle.hv_unit_model.specs.EarlierUnits.{in_picture};
-ghost use Rattle.hv_unit_model.specs.Plans.{IsPlan, tree_of};
+ghost use Rattle.hv_tree_model.specs.EarlierUnits.{in_picture};
+ghost use Rattle.hv_tree_model.specs.Plans.{IsPlan, tree_of};
 ghost use Rattle.hv_unit_model.specs.PlanLaws.{squares_before};
 ghost use Rattle.hv_syntax.specs.Neighbours.{lists_of_plan};
 ghost use Rattle.hv_slice_model.specs.PlannedUnits.{planned_units, NameTheirUnits};

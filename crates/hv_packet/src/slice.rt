@@ -7,8 +7,8 @@ ghost use Rattle.hv_stream_model.specs.Bits.{bytes_of};
 ghost use Rattle.hv_stream_model.specs.Fields.{aligned, bits_of_fields};
 ghost use Rattle.hv_stream_model.specs.Units.{last_of};
 ghost use Rattle.hv_stream_model.specs.Headers.{slice_header_of, used_count};
-ghost use Rattle.hv_unit_model.specs.Trees.{CodingTreeUnit};
-ghost use Rattle.hv_unit_model.specs.Sites.{Site};
+ghost use Rattle.hv_tree_model.specs.Trees.{CodingTreeUnit};
+ghost use Rattle.hv_tree_model.specs.Sites.{Site};
 ghost use Rattle.hv_slice_model.specs.Slices.{header_in, word_behind, payload_of_slice};
 
 use hv_bits::BitWriter;

@@ -5,7 +5,7 @@ ghost use Rattle.hv_types.specs.declared.settings.Settings.{Settings};
 ghost use Rattle.hv_types.specs.Configuration.{padded_width, padded_height};
 ghost use Rattle.hv_stream_model.specs.Units.{unit_bytes};
 ghost use Rattle.hv_stream_model.specs.Headers.{used_count};
-ghost use Rattle.hv_unit_model.specs.Validity.{AreValid};
+ghost use Rattle.hv_tree_model.specs.Validity.{AreValid};
 ghost use Rattle.hv_slice_model.specs.Slices.{header_in, picture_sites, nal_unit_type_of};
 ghost use Rattle.hv_slice_model.specs.Slices.{unit_of_slice};
 ghost use Rattle.hv_slice_model.specs.BlankUnits.{blank_units};

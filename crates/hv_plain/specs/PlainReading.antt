@@ -1,6 +1,6 @@
 -- What the plain reader of bins is asked, and what it answers.
 use Rattle.std.specs.Prelude.{Bool, cond, nat_lt, Option, None, MatchOption, Some, ◌≡◌}
-use Rattle.hv_types.specs.Bins.{Question, Context, Bypass, Terminate}
+use Rattle.hv_tables.specs.Bins.{Question, Context, Bypass, Terminate}
 use Rattle.hv_entropy_model.specs.Oracle.{Decoder, decode}
 use Rattle.hv_plain.specs.declared.reader.Question.{Question as PlainQuestion}
 use Rattle.hv_plain.specs.declared.reader.Question.TheVariants.{Bin as PlainBin, Bypass as PlainBypass, End as PlainEnd}

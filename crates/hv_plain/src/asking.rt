@@ -2,7 +2,7 @@
 
 use crate::alternatives::Tally;
 use crate::reader::{BinReader, Question};
-use hv_types::{Ctx, CtxTable};
+use hv_tables::{Ctx, CtxTable};
 
 /// A bin, which is counted. None where the decoder gives no answer.
 pub fn ask(reader: &mut BinReader<'_>, tally: &mut Tally, question: Question) -> Option<bool> {

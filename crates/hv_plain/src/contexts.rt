@@ -4,8 +4,7 @@ ghost use Rattle.std.specs.Prelude.{◌≡◌};
 ghost use Rattle.hv_entropy_model.specs.Contexts.{variable_at, with_variable};
 
 use crate::variables::Variable;
-use hv_tables::context_place;
-use hv_types::Ctx;
+use hv_tables::{Ctx, context_place};
 
 /// The variable of a context; pStateIdx 0 and valMps 0 where no variable has its place.
 pub fn variable_at(variables: &Vec<Variable>, context: Ctx) -> Variable

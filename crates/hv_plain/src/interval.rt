@@ -1,7 +1,7 @@
 //! The interval of the arithmetic coder, bin by bin, with a low end that is never cut.
 
 ghost use Rattle.std.specs.Prelude.{◌≡◌, ◌+◌, ◌-◌, ◌*◌, ◌^◌, ◌<◌, ◌≤◌, false, cond, length, All, IfOk};
-ghost use Rattle.hv_types.specs.Bins.{context_bin, bypass_bin, terminate_bin};
+ghost use Rattle.hv_tables.specs.Bins.{context_bin, bypass_bin, terminate_bin};
 ghost use Rattle.hv_stream_model.specs.Bits.{number_of};
 ghost use Rattle.hv_entropy_model.specs.Contexts.{first_variables, variable_at};
 ghost use Rattle.hv_entropy_model.specs.CodeWord.{Interval, first_interval, shift_of, cut_at, cut_to, advance, word_at};
@@ -11,7 +11,7 @@ use crate::contexts::variable_at;
 use crate::digits::{add, double};
 use crate::reader::{adapted, doubled};
 use crate::variables::{Variable, first_variables, lps_width};
-use hv_types::{Ctx, SliceKind};
+use hv_tables::{Ctx, SliceKind};
 use std::alloc::{AllocError, Global};
 use std::marker::Model;
 

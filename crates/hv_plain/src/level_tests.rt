@@ -4,7 +4,7 @@
 use crate::{BLOCKS, BinReader, Question, Tally, read_back, read_levels};
 use hv_cabac::Encoder;
 use hv_plan::Scan;
-use hv_types::{BinSink, Ctx, CtxTable, SliceKind};
+use hv_tables::{BinSink, Ctx, CtxTable, SliceKind};
 use std::alloc::Global;
 use std::io::Print;
 use std::process::Abort;

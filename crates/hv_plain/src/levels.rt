@@ -8,7 +8,7 @@ use crate::alternatives::{Element, Tally};
 use crate::asking::{ask, ask_with, power, read_exp_golomb, read_fixed};
 use crate::reader::{BinReader, Question};
 use hv_plan::Scan;
-use hv_types::{Ctx, CtxTable};
+use hv_tables::{Ctx, CtxTable};
 
 /// What is known of a transform block before its levels: `scanIdx`, the binary logarithm of its
 /// side (`log2TrafoSize`), and whether its component is luma.

@@ -1,7 +1,7 @@
 //! The arithmetic decoder (9.3.4.3), bin by bin.
 
 ghost use Rattle.std.specs.Prelude.{◌≡◌, ◌+◌, ◌-◌, ◌*◌, ◌^◌, ◌<◌, ◌≤◌, Bool, not, false, List, length, drop, Option, option_map, IfOk, IfSome};
-ghost use Rattle.hv_types.specs.Bins.{Context, Bypass, Terminate};
+ghost use Rattle.hv_tables.specs.Bins.{Context, Bypass, Terminate};
 ghost use Rattle.hv_stream_model.specs.Bits.{bits_of};
 ghost use Rattle.hv_entropy_model.specs.Contexts.{ContextVariable, first_variables, variable_at, with_variable, next_variable};
 ghost use Rattle.hv_entropy_model.specs.Oracle.{begin_decoder, renormalize, with_value, decode};
@@ -10,7 +10,7 @@ ghost use Rattle.hv_plain.specs.PlainReading.{question_of, answered, Answers};
 use crate::bits::{read_bits, shift_of};
 use crate::contexts::{put_variable, variable_at};
 use crate::variables::{Variable, first_variables, lps_width, next_variable};
-use hv_types::{Ctx, SliceKind};
+use hv_tables::{Ctx, SliceKind};
 use std::alloc::{AllocError, Global};
 use std::marker::Model;
 

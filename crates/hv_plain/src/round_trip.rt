@@ -1,7 +1,7 @@
 //! Blocks of levels from a seed, put into the arithmetic encoder and read back by the plain reader.
 
 ghost use Rattle.std.specs.Prelude.{◌≡◌, ◌*◌, ◌^◌, ◌≤◌, length, true};
-ghost use Rattle.hv_residual_model.specs.ResidualBins.{any_significant};
+ghost use Rattle.hv_plan.specs.Levels.{any_significant};
 
 use crate::alternatives::Tally;
 use crate::generator::{Generated, Random, count_in, generate};
@@ -10,7 +10,8 @@ use crate::reader::{BinReader, Question};
 use hv_cabac::Encoder;
 use hv_plan::Scan;
 use hv_residual::{any_significant, count_residual, put_residual};
-use hv_types::{BinSink, NoMemory, SliceKind};
+use hv_tables::{BinSink, SliceKind};
+use hv_types::NoMemory;
 use std::alloc::Global;
 
 /// How many blocks each slice of `read_back` has.

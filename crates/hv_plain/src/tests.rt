@@ -3,7 +3,8 @@
 
 use crate::{BinReader, Field, PlainInterval, Question, bits_of_fields, escape, field_bits};
 use hv_cabac::Encoder;
-use hv_types::{BinSink, Ctx, CtxTable, NoMemory, SliceKind};
+use hv_tables::{BinSink, Ctx, CtxTable, SliceKind};
+use hv_types::NoMemory;
 use std::alloc::{AllocError, Global};
 use std::process::Abort;
 use std::test::Fail;

@@ -5,8 +5,7 @@ ghost use Rattle.std.specs.Int.{int_shr};
 ghost use Rattle.hv_lemmas.specs.Clipping.{clip3};
 ghost use Rattle.hv_entropy_model.specs.Contexts.{preCtxState, first_variable, first_variables, lps_width, after_mps, after_lps, next_variable};
 
-use hv_tables::{init_values, range_tab_lps, trans_idx_lps};
-use hv_types::SliceKind;
+use hv_tables::{SliceKind, init_values, range_tab_lps, trans_idx_lps};
 use std::alloc::{AllocError, Global};
 use std::marker::Model;
 

@@ -8,7 +8,8 @@ use crate::prediction::candidates;
 use crate::quadtree::put_unit;
 use crate::transform::count_of;
 use hv_plain::{Random, levels_of_kind};
-use hv_types::{NoMemory, SliceKind};
+use hv_tables::SliceKind;
+use hv_types::NoMemory;
 use std::alloc::Global;
 
 /// How often a node that may be one unit is split: in so many of 8 cases, by its size.

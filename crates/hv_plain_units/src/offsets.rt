@@ -4,7 +4,7 @@ use crate::alternatives::UnitElement;
 use crate::coded::NO_OFFSETS;
 use crate::source::Source;
 use hv_plan::{SaoComponent, SaoKind, SaoParam};
-use hv_types::CtxTable;
+use hv_tables::CtxTable;
 
 /// The offsets of a block (7.3.8.3). None where they are merged with those of another block.
 pub(crate) fn read_offsets(

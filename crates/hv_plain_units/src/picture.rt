@@ -1,7 +1,8 @@
 //! A picture of one slice, and what is known of its squares of 8x8 luma samples.
 
 use crate::coded::Square;
-use hv_types::{NoMemory, SliceKind};
+use hv_tables::SliceKind;
+use hv_types::NoMemory;
 use std::alloc::Global;
 
 /// A slice that is a whole picture.

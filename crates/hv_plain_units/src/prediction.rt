@@ -6,7 +6,7 @@ use crate::coded::{Prediction, Square};
 use crate::picture::{Node, Picture};
 use crate::source::Source;
 use hv_plan::Mv;
-use hv_types::CtxTable;
+use hv_tables::CtxTable;
 
 /// INTRA_PLANAR
 const PLANAR: u8 = 0;

@@ -6,7 +6,7 @@ use crate::picture::{Node, Picture};
 use crate::prediction::{read_mode, read_motion};
 use crate::source::Source;
 use crate::transform::read_transform_tree;
-use hv_types::{CtxTable, SliceKind};
+use hv_tables::{CtxTable, SliceKind};
 
 /// A node of this size (`coding_quadtree`, 7.3.8.4).
 pub(crate) fn read_quadtree(

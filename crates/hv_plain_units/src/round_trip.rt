@@ -8,7 +8,8 @@ use crate::slice::read_slice;
 use crate::source::Source;
 use crate::writer::write_slice;
 use hv_plain::{BinReader, Random};
-use hv_types::{NoMemory, SliceKind};
+use hv_tables::SliceKind;
+use hv_types::NoMemory;
 use std::alloc::Global;
 
 /// `SliceQpY` of the slices.

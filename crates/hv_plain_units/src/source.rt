@@ -3,7 +3,7 @@
 use crate::alternatives::{UnitElement, UnitTally};
 use hv_plain::{BinReader, Question, ask, ask_with, read_exp_golomb, read_fixed, read_levels};
 use hv_plan::Scan;
-use hv_types::CtxTable;
+use hv_tables::CtxTable;
 
 /// The arithmetic decoder in the data of a slice, and the tally of what came.
 #[derive(Drop)]

@@ -4,7 +4,7 @@ use crate::alternatives::UnitElement;
 use crate::coded::{CodedBlock, Prediction, put_levels};
 use crate::source::Source;
 use hv_plan::Scan;
-use hv_types::CtxTable;
+use hv_tables::CtxTable;
 
 /// A transform unit: how it is predicted, its luma side 2^log2 (`log2TrafoSize`), its depth
 /// (`trafoDepth`), and the address of its first square in the coding tree block.

@@ -6,7 +6,8 @@ use hv_block::{Block, Edges, Neighbours};
 use hv_cabac::Encoder;
 use hv_plan::{Mv, Place, Pred, Unit};
 use hv_syntax::{names_its_units, put_ctb};
-use hv_types::{BinSink, NoMemory};
+use hv_tables::BinSink;
+use hv_types::NoMemory;
 use std::alloc::Global;
 
 /// The bytes of a slice of these blocks; none where the units of one don't name its coding units.

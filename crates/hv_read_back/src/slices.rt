@@ -5,7 +5,7 @@
 use anyhow::bail;
 use hv_plain::BinReader;
 use hv_plain_units::{Slice, Source, UnitTally, is_end, read_slice, read_slices_back};
-use hv_types::SliceKind;
+use hv_tables::SliceKind;
 use std::alloc::Global;
 use std::io::{Input, Print};
 

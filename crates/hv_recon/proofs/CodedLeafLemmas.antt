@@ -10,8 +10,8 @@ use Rattle.hv_block.specs.declared.edges.Neighbours.{Neighbours}
 use Rattle.hv_block.specs.Plans.{CtbPlan, with_units}
 use Rattle.hv_block.specs.Samples.{Samples}
 use Rattle.hv_plan.specs.declared.prediction.Unit.{Unit}
-use Rattle.hv_unit_model.specs.Trees.{side}
-use Rattle.hv_unit_model.specs.Sites.{Site, column_of, row_of, x0, y0, squares}
+use Rattle.hv_tree_model.specs.Trees.{side}
+use Rattle.hv_tree_model.specs.Sites.{Site, column_of, row_of, x0, y0, squares}
 use Rattle.hv_recon.specs.CodedUnits.{IsUnitCoded, AreQuartersCoded, KeepsEarlier}
 use Rattle.hv_recon.specs.Units.{AreQuartersPut}
 use Rattle.hv_recon.proofs.CodedUnitLemmas.{unit_kept}

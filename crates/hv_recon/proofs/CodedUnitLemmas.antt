@@ -8,8 +8,8 @@ use Rattle.hv_block.specs.declared.edges.Neighbours.{Neighbours}
 use Rattle.hv_block.specs.Plans.{CtbPlan}
 use Rattle.hv_block.specs.Samples.{Samples}
 use Rattle.hv_sample_model.specs.Quantisation.{levels}
-use Rattle.hv_unit_model.specs.Sites.{Site}
-use Rattle.hv_unit_model.specs.Plans.{part}
+use Rattle.hv_tree_model.specs.Sites.{Site}
+use Rattle.hv_tree_model.specs.Plans.{part}
 use Rattle.hv_types.specs.Samples.{Plane}
 use Rattle.hv_recon_model.specs.SeenSamples.{Spot, SamplesAround, seen_line}
 use Rattle.hv_recon.specs.Coding.{input_block, coded_levels, with_levels}

@@ -9,9 +9,9 @@ use Rattle.hv_block.specs.declared.edges.Neighbours.{Neighbours}
 use Rattle.hv_block.specs.Plans.{CtbPlan}
 use Rattle.hv_block.specs.Samples.{Samples}
 use Rattle.hv_plan.specs.declared.prediction.Pred.TheVariants.{Intra as IntraPred}
-use Rattle.hv_unit_model.specs.Trees.{Intra, side, TransformUnit}
-use Rattle.hv_unit_model.specs.Sites.{Site, x0, y0, column_of, row_of}
-use Rattle.hv_unit_model.specs.Plans.{transform_unit_at, leaf_at}
+use Rattle.hv_tree_model.specs.Trees.{Intra, side, TransformUnit}
+use Rattle.hv_tree_model.specs.Sites.{Site, x0, y0, column_of, row_of}
+use Rattle.hv_tree_model.specs.Plans.{transform_unit_at, leaf_at}
 use Rattle.hv_recon_model.specs.Reconstruction.{Decoded, square_at, decoded_unit, decoded_quarters, decoded_tree}
 use Rattle.hv_recon_model.specs.SeenSamples.{comes_before}
 use Rattle.hv_recon.specs.Leaves.{AreSeen, lists_of_plan, DecodesLeaf, KeepsOthers, KeepsOtherSamples}

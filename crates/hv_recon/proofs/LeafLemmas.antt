@@ -8,9 +8,9 @@ use Rattle.hv_block.specs.Plans.{CtbPlan}
 use Rattle.hv_block.specs.Samples.{Samples}
 use Rattle.hv_plan.specs.declared.prediction.Pred.TheVariants.{Intra as IntraPred}
 use Rattle.hv_plan.specs.declared.prediction.Unit.{Unit}
-use Rattle.hv_unit_model.specs.Trees.{Intra}
-use Rattle.hv_unit_model.specs.Sites.{Site, x0, y0, squares}
-use Rattle.hv_unit_model.specs.Plans.{transform_unit_at, leaf_at}
+use Rattle.hv_tree_model.specs.Trees.{Intra}
+use Rattle.hv_tree_model.specs.Sites.{Site, x0, y0, squares}
+use Rattle.hv_tree_model.specs.Plans.{transform_unit_at, leaf_at}
 use Rattle.hv_recon_model.specs.Reconstruction.{Decoded, square_at, decoded_unit, decoded_tree}
 use Rattle.hv_recon_model.proofs.SeenLemmas.{before_stays, behind_stays}
 use Rattle.hv_recon_model.proofs.SeenNodeLemmas.{luma_between, chroma_between}

@@ -7,7 +7,7 @@ use Rattle.std.proofs.lemmas.Nat.{mod-mul-add, div-mul-add}
 use Rattle.std.proofs.lemmas.Bool.{cases_lt, and_parts, ltb-true}
 use Rattle.std.proofs.lemmas.Bool.Decides.{nat_tests}
 use Rattle.hv_block.specs.declared.block.Block.{Block}
-use Rattle.hv_unit_model.specs.Sites.{address_of}
+use Rattle.hv_tree_model.specs.Sites.{address_of}
 use Rattle.hv_recon_model.specs.Reconstruction.{Component}
 use Rattle.hv_recon_model.specs.SeenSamples.{SamplesAround, IsSeen, comes_before, sample_inside, sample_around, is_behind_edges, is_in_picture, look_around, look_picture}
 use Rattle.hv_recon.proofs.ChoiceLemmas.{where_is, where_never, same_where}

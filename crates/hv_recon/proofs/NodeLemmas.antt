@@ -8,10 +8,10 @@ use Rattle.std.proofs.lemmas.Bool.Decides.{nat_tests}
 use Rattle.hv_block.specs.declared.edges.Neighbours.{Neighbours}
 use Rattle.hv_block.specs.Plans.{CtbPlan}
 use Rattle.hv_block.specs.Samples.{Samples}
-use Rattle.hv_unit_model.specs.Trees.{Tree, Split, Outside, side, greatest_size}
-use Rattle.hv_unit_model.specs.Sites.{Site, ctb_side, ctb_column, ctb_row, address_of, column_of, row_of, x0, y0, squares, is_outside}
-use Rattle.hv_unit_model.specs.Plans.{is_leaf, tree_at}
-use Rattle.hv_unit_model.proofs.NodeLemmas.{IsNode, child_of}
+use Rattle.hv_tree_model.specs.Trees.{Tree, Split, Outside, side, greatest_size}
+use Rattle.hv_tree_model.specs.Sites.{Site, ctb_side, ctb_column, ctb_row, address_of, column_of, row_of, x0, y0, squares, is_outside}
+use Rattle.hv_tree_model.specs.Plans.{is_leaf, tree_at}
+use Rattle.hv_tree_model.proofs.NodeLemmas.{IsNode, child_of}
 use Rattle.hv_unit_model.proofs.GeometryLemmas.{address_of_place, square_of_node}
 use Rattle.hv_recon_model.specs.Reconstruction.{Component, Decoded, decoded_tree}
 use Rattle.hv_recon_model.proofs.DecodedLemmas.{Step, and_then}

@@ -14,9 +14,9 @@ use Rattle.hv_types.specs.Samples.{plane_of, plane_by_rows}
 use Rattle.hv_block.specs.declared.block.Block.{Block}
 use Rattle.hv_block.specs.Around.{neighbours_of}
 use Rattle.hv_block.specs.Samples.{Samples}
-use Rattle.hv_unit_model.specs.Trees.{Tree, greatest_size}
-use Rattle.hv_unit_model.specs.Sites.{Site, site, sites, sites_from, blocks_over, ctb_side, ctb_column, ctb_row}
-use Rattle.hv_unit_model.specs.Plans.{tree_of}
+use Rattle.hv_tree_model.specs.Trees.{Tree, greatest_size}
+use Rattle.hv_tree_model.specs.Sites.{Site, site, sites, sites_from, blocks_over, ctb_side, ctb_column, ctb_row}
+use Rattle.hv_tree_model.specs.Plans.{tree_of}
 use Rattle.hv_recon_model.specs.Reconstruction.{Decoded, nothing_decoded, decoded_tree, decoded_trees, sample_of, picture_of, unfiltered}
 use Rattle.hv_recon_model.proofs.BesideLemmas.{KeepBeside, KeptBeside, tree_beside}
 use Rattle.hv_recon_model.proofs.PictureLemmas.{block_below}

@@ -6,10 +6,10 @@ use Rattle.hv_tables.specs.Quantisers.{chroma_qp}
 use Rattle.hv_block.specs.declared.edges.Neighbours.{Neighbours}
 use Rattle.hv_block.specs.Plans.{CtbPlan}
 use Rattle.hv_block.specs.Samples.{Samples}
-use Rattle.hv_unit_model.specs.Trees.{Intra, side}
-use Rattle.hv_unit_model.specs.Sites.{Site, ctb_column, ctb_row, column_of, row_of, x0, y0, squares}
-use Rattle.hv_unit_model.specs.Plans.{part, transform_unit_at}
-use Rattle.hv_unit_model.proofs.NodeLemmas.{IsNode}
+use Rattle.hv_tree_model.specs.Trees.{Intra, side}
+use Rattle.hv_tree_model.specs.Sites.{Site, ctb_column, ctb_row, column_of, row_of, x0, y0, squares}
+use Rattle.hv_tree_model.specs.Plans.{part, transform_unit_at}
+use Rattle.hv_tree_model.proofs.NodeLemmas.{IsNode}
 use Rattle.hv_recon_model.specs.Reconstruction.{Component, Decoded, chroma_of, square_at, decoded_block, decoded_unit, all_decoded}
 use Rattle.hv_recon_model.specs.SeenSamples.{luma_spot, chroma_spot}
 use Rattle.hv_recon_model.proofs.SeenLemmas.{FitsIn, FitsInPicture}

@@ -5,7 +5,7 @@ use Rattle.hv_block.specs.declared.edges.Neighbours.{Neighbours}
 use Rattle.hv_block.specs.Plans.{CtbPlan, unit_of, with_units}
 use Rattle.hv_block.specs.Samples.{Samples}
 use Rattle.hv_plan.specs.declared.prediction.Pred.TheVariants.{Intra}
-use Rattle.hv_unit_model.specs.Sites.{Site}
+use Rattle.hv_tree_model.specs.Sites.{Site}
 use Rattle.hv_recon.specs.CodedUnits.{IsUnitCoded, AreQuartersCoded}
 
 -- The plan has the levels of the leaf, and the new samples are the old ones with those of the leaf:

@@ -6,8 +6,8 @@ use Rattle.hv_tables.specs.Quantisers.{chroma_qp}
 use Rattle.hv_block.specs.declared.edges.Neighbours.{Neighbours}
 use Rattle.hv_block.specs.Plans.{CtbPlan}
 use Rattle.hv_block.specs.Samples.{Samples}
-use Rattle.hv_unit_model.specs.Sites.{Site, column_of, row_of}
-use Rattle.hv_unit_model.specs.Plans.{part}
+use Rattle.hv_tree_model.specs.Sites.{Site, column_of, row_of}
+use Rattle.hv_tree_model.specs.Plans.{part}
 use Rattle.hv_recon_model.specs.SeenSamples.{luma_spot, chroma_spot, seen_line}
 use Rattle.hv_recon.specs.Coding.{input_block, coded_levels}
 use Rattle.hv_recon.specs.Leaves.{luma_around, cb_around, cr_around}

@@ -6,9 +6,9 @@ use Rattle.hv_types.specs.Samples.{plane_of}
 use Rattle.hv_block.specs.declared.block.Block.{Block}
 use Rattle.hv_block.specs.Around.{neighbours_of}
 use Rattle.hv_block.specs.Samples.{AreWholeSamples}
-use Rattle.hv_unit_model.specs.Trees.{Tree}
-use Rattle.hv_unit_model.specs.Sites.{Site, site, sites, blocks_over, ctb_side}
-use Rattle.hv_unit_model.specs.Plans.{tree_of}
+use Rattle.hv_tree_model.specs.Trees.{Tree}
+use Rattle.hv_tree_model.specs.Sites.{Site, site, sites, blocks_over, ctb_side}
+use Rattle.hv_tree_model.specs.Plans.{tree_of}
 use Rattle.hv_recon_model.specs.Reconstruction.{Decoded, nothing_decoded, decoded_trees, unfiltered}
 use Rattle.hv_recon.specs.Leaves.{lists_of_plan}
 use Rattle.hv_recon.specs.DecodedNodes.{DecodesBlock}

@@ -4,9 +4,9 @@ use Rattle.hv_block.specs.declared.edges.Neighbours.{Neighbours}
 use Rattle.hv_block.specs.Plans.{CtbPlan}
 use Rattle.hv_block.specs.Samples.{Samples}
 use Rattle.hv_plan.specs.declared.prediction.Unit.{Unit}
-use Rattle.hv_unit_model.specs.Trees.{Tree, greatest_size}
-use Rattle.hv_unit_model.specs.Sites.{Site, ctb_side, ctb_column, ctb_row, x0, y0, squares, is_outside}
-use Rattle.hv_unit_model.specs.Plans.{is_leaf, tree_at, tree_of}
+use Rattle.hv_tree_model.specs.Trees.{Tree, greatest_size}
+use Rattle.hv_tree_model.specs.Sites.{Site, ctb_side, ctb_column, ctb_row, x0, y0, squares, is_outside}
+use Rattle.hv_tree_model.specs.Plans.{is_leaf, tree_at, tree_of}
 use Rattle.hv_recon_model.specs.Reconstruction.{Decoded, decoded_tree}
 use Rattle.hv_recon.specs.Leaves.{AreSeen, lists_of_plan, DecodesLeaf}
 

@@ -7,9 +7,9 @@ use Rattle.hv_block.specs.Plans.{CtbPlan}
 use Rattle.hv_block.specs.Samples.{Samples}
 use Rattle.hv_plan.specs.declared.prediction.Pred.TheVariants.{Intra}
 use Rattle.hv_plan.specs.declared.prediction.Unit.{Unit}
-use Rattle.hv_unit_model.specs.Trees.{Tree}
-use Rattle.hv_unit_model.specs.Sites.{Site, x0, y0, squares}
-use Rattle.hv_unit_model.specs.Plans.{Plan, leaf_at}
+use Rattle.hv_tree_model.specs.Trees.{Tree}
+use Rattle.hv_tree_model.specs.Sites.{Site, x0, y0, squares}
+use Rattle.hv_tree_model.specs.Plans.{Plan, leaf_at}
 use Rattle.hv_recon_model.specs.Reconstruction.{Decoded, decoded_tree}
 use Rattle.hv_recon_model.specs.SeenSamples.{SampleEdges, SamplesAround, IsSeen, luma_spot, chroma_spot, by_rows, comes_before}
 

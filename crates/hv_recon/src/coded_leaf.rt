@@ -2,8 +2,8 @@
 
 ghost use Rattle.std.specs.Prelude.{◌≡◌, ◌+◌, ◌%◌, ◌<◌, ◌≤◌};
 ghost use Rattle.hv_types.specs.Video.{IsPicture};
-ghost use Rattle.hv_unit_model.specs.Trees.{side};
-ghost use Rattle.hv_unit_model.specs.Sites.{squares, x0, y0};
+ghost use Rattle.hv_tree_model.specs.Trees.{side};
+ghost use Rattle.hv_tree_model.specs.Sites.{squares, x0, y0};
 ghost use Rattle.hv_recon.specs.CodedLeaves.{IsLeafCoded, IsLeafSet};
 ghost use Rattle.hv_recon.specs.CodedUnits.{AreQuartersCoded};
 ghost use Rattle.hv_recon.specs.Leaves.{DecodesLeaf, KeepsOtherSamples};

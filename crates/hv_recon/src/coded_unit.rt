@@ -2,9 +2,9 @@
 
 ghost use Rattle.std.specs.Prelude.{◌≡◌, ◌+◌, ◌*◌, ◌^◌, ◌<◌, ◌≤◌, length};
 ghost use Rattle.hv_types.specs.Video.{IsPicture};
-ghost use Rattle.hv_unit_model.specs.Trees.{side};
+ghost use Rattle.hv_tree_model.specs.Trees.{side};
 ghost use Rattle.hv_sample_model.specs.IntraPrediction.{substituted};
-ghost use Rattle.hv_unit_model.specs.Sites.{column_of, row_of, x0, y0};
+ghost use Rattle.hv_tree_model.specs.Sites.{column_of, row_of, x0, y0};
 ghost use Rattle.hv_recon_model.specs.SeenSamples.{IsPut, luma_spot, seen_line};
 ghost use Rattle.hv_recon.specs.CodedUnits.{IsUnitCoded, KeepsEarlier};
 ghost use Rattle.hv_recon.specs.Leaves.{luma_around};

@@ -1,8 +1,8 @@
 //! A leaf of a coding tree block: an intra coding unit.
 
 ghost use Rattle.std.specs.Prelude.{◌≡◌, ◌+◌, ◌%◌, ◌<◌, ◌≤◌, slice_get};
-ghost use Rattle.hv_unit_model.specs.Trees.{side};
-ghost use Rattle.hv_unit_model.specs.Sites.{squares, x0, y0};
+ghost use Rattle.hv_tree_model.specs.Trees.{side};
+ghost use Rattle.hv_tree_model.specs.Sites.{squares, x0, y0};
 ghost use Rattle.hv_recon.specs.Leaves.{IsIntra, DecodesLeaf, KeepsOtherSamples};
 ghost use Rattle.hv_recon.specs.Units.{AreQuartersPut};
 

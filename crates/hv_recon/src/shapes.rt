@@ -1,7 +1,7 @@
 //! Transform units and transform blocks of a coding tree block.
 
 ghost use Rattle.std.specs.Prelude.{◌≡◌, ◌%◌, ◌<◌, ◌≤◌};
-ghost use Rattle.hv_unit_model.specs.Sites.{squares};
+ghost use Rattle.hv_tree_model.specs.Sites.{squares};
 
 /// An intra transform unit: its address, its size, 0 for 8x8 to 2 for 32x32 luma samples, its mode,
 /// and the quantiser of luma.

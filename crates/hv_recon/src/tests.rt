@@ -1,7 +1,7 @@
 //! Leaves of a few blocks, worked by hand.
 ghost use Rattle.std.specs.Prelude.{◌≡◌, ◌+◌, ◌%◌, ◌^◌, ◌<◌, ◌≤◌};
-ghost use Rattle.hv_unit_model.specs.Trees.{side};
-ghost use Rattle.hv_unit_model.specs.Sites.{squares, x0, y0};
+ghost use Rattle.hv_tree_model.specs.Trees.{side};
+ghost use Rattle.hv_tree_model.specs.Sites.{squares, x0, y0};
 
 use super::*;
 use hv_block::{Block, Edges, Neighbours};

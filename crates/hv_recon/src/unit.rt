@@ -1,8 +1,8 @@
 //! A transform unit: its block of luma, and those of Cb and Cr.
 
 ghost use Rattle.std.specs.Prelude.{◌≡◌, ◌+◌, ◌*◌, ◌^◌, ◌<◌, ◌≤◌, length};
-ghost use Rattle.hv_unit_model.specs.Sites.{column_of, row_of};
-ghost use Rattle.hv_unit_model.specs.Plans.{part};
+ghost use Rattle.hv_tree_model.specs.Sites.{column_of, row_of};
+ghost use Rattle.hv_tree_model.specs.Plans.{part};
 ghost use Rattle.hv_recon_model.specs.SeenSamples.{IsPut, luma_spot, chroma_spot, seen_line, seen_block};
 ghost use Rattle.hv_recon.specs.Leaves.{edges_in, luma_around, cb_around, cr_around};
 ghost use Rattle.hv_recon.specs.Units.{IsUnitPut};

@@ -1,7 +1,7 @@
 //! What is seen of decoded samples from a coding tree block, in one colour component.
 
 ghost use Rattle.std.specs.Prelude.{◌≡◌, ◌+◌, ◌-◌, ◌*◌, ◌^◌, ◌<◌, ◌≤◌, length, take};
-ghost use Rattle.hv_unit_model.specs.Sites.{address_of};
+ghost use Rattle.hv_tree_model.specs.Sites.{address_of};
 ghost use Rattle.hv_recon_model.specs.SeenSamples.{on_right, on_bottom, comes_before, sample_inside, look_around, seen_line};
 ghost use Rattle.hv_recon.specs.Views.{edges_of, around_of, spot_of};
 

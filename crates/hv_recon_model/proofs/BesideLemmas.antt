@@ -4,7 +4,7 @@ use Rattle.std.proofs.Common.{◌≡◌, ℕ, zero, suc, ◌+◌, ◌-◌, ◌*�
 use Rattle.std.specs.Prelude.{Option, Some, None, option_and_then, slice_index_or}
 use Rattle.std.proofs.Math.Nat.{pow-suc}
 use Rattle.std.proofs.lemmas.Bool.Decides.{nat_tests}
-use Rattle.hv_unit_model.specs.Trees.{Prediction, Intra, Inter, TransformUnit, Tree, Leaf, Split, Outside, side}
+use Rattle.hv_tree_model.specs.Trees.{Prediction, Intra, Inter, TransformUnit, Tree, Leaf, Split, Outside, side}
 use Rattle.hv_recon_model.specs.Reconstruction.{Component, Decoded, Square, square_at, quarter, is_in, with_block, decoded_block, decoded_unit, decoded_quarters, decoded_units, decoded_tree}
 use Rattle.hv_recon_model.proofs.DecodedLemmas.{Step, side_double}
 

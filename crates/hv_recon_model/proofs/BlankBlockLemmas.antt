@@ -19,8 +19,8 @@ use Rattle.hv_tables.specs.Quantisers.{levelScale}
 use Rattle.hv_sample_model.specs.Blocks.{square, at_place, sum_of, total_of}
 use Rattle.hv_sample_model.specs.IntraPrediction.{first_available, filled_from, substituted, is_smoothed, filtered, left, above, dcVal, by_mode, predicted}
 use Rattle.hv_sample_model.specs.InverseTransform.{scaled, column_sample, inverse_sample, residual}
-use Rattle.hv_residual_model.specs.ResidualBins.{is_significant, any_significant}
-use Rattle.hv_unit_model.proofs.SignLemmas.{insignificant}
+use Rattle.hv_plan.specs.Levels.{is_significant, any_significant}
+use Rattle.hv_tree_model.proofs.LevelLemmas.{insignificant}
 use Rattle.hv_recon_model.specs.Reconstruction.{Component, Square, left_of, above_of, neighbours, sum_of as sum_of_lists, is_in, with_block}
 
 -- ---- what is decoded is 128

@@ -7,9 +7,9 @@ use Rattle.std.proofs.lemmas.Bool.{or_parts, and_parts, not-true}
 use Rattle.std.proofs.lemmas.Bool.Decides.{nat_tests}
 use Rattle.hv_lemmas.proofs.ListLemmas.{tabulate-same}
 use Rattle.hv_types.specs.Samples.{filled_plane, plane_by_rows}
-use Rattle.hv_residual_model.specs.ResidualBins.{any_significant}
-use Rattle.hv_unit_model.specs.Trees.{Intra, Inter, TransformUnit, Tree, Leaf, Split, Outside, any_level, side, greatest_size}
-use Rattle.hv_unit_model.specs.Sites.{Site, sites, ctb_side, ctb_column, ctb_row}
+use Rattle.hv_plan.specs.Levels.{any_significant}
+use Rattle.hv_tree_model.specs.Trees.{Intra, Inter, TransformUnit, Tree, Leaf, Split, Outside, any_level, side, greatest_size}
+use Rattle.hv_tree_model.specs.Sites.{Site, sites, ctb_side, ctb_column, ctb_row}
 use Rattle.hv_recon_model.specs.Reconstruction.{Component, Decoded, Square, square_at, chroma_of, quarter, nothing_decoded, decoded_block, decoded_unit, decoded_quarters, decoded_units, decoded_tree, decoded_trees, sample_of, plane_of_component, picture_of, unfiltered}
 use Rattle.hv_recon_model.specs.ReconstructionLaws.{IsDecoded}
 use Rattle.hv_recon_model.specs.BlankLaws.{is_blank_tree, BlankPicturesAreGrey}

@@ -6,11 +6,11 @@ use Rattle.std.proofs.lemmas.Bool.{cases_lt}
 use Rattle.std.proofs.Math.Dec.{lit<}
 use Rattle.std.proofs.Math.Nat.{pow-suc}
 use Rattle.std.proofs.lemmas.Bool.Decides.{nat_tests}
-use Rattle.hv_types.specs.declared.bins.SliceKind.TheVariants.{I}
-use Rattle.hv_unit_model.specs.Trees.{Intra, Inter, TransformUnit, Tree, Leaf, Split, Outside, side, log2TrafoSize, transform_units}
-use Rattle.hv_unit_model.specs.Sites.{Site, x0, y0, squares, is_outside}
-use Rattle.hv_unit_model.specs.Validity.{IsValidNode, AreTransformUnits}
-use Rattle.hv_unit_model.proofs.NodeLemmas.{IsNode, child_of}
+use Rattle.hv_tables.specs.declared.bins.SliceKind.TheVariants.{I}
+use Rattle.hv_tree_model.specs.Trees.{Intra, Inter, TransformUnit, Tree, Leaf, Split, Outside, side, log2TrafoSize, transform_units}
+use Rattle.hv_tree_model.specs.Sites.{Site, x0, y0, squares, is_outside}
+use Rattle.hv_tree_model.specs.Validity.{IsValidNode, AreTransformUnits}
+use Rattle.hv_tree_model.proofs.NodeLemmas.{IsNode, child_of}
 use Rattle.hv_recon_model.specs.Reconstruction.{Component, Decoded, Square, square_at, is_in, with_block, decoded_block, decoded_unit, decoded_units, decoded_tree}
 use Rattle.hv_recon_model.specs.ReconstructionLaws.{IsDecoded}
 

@@ -6,9 +6,9 @@ use Rattle.std.proofs.Math.Dec.{lit<}
 use Rattle.std.proofs.Math.Nat.{mul-le-mul_right, add-mul, mul_comm}
 use Rattle.std.proofs.lemmas.Nat.{mod-mul-add, div-mul-add}
 use Rattle.std.proofs.lemmas.Bool.{cases_lt}
-use Rattle.hv_types.specs.declared.bins.SliceKind.TheVariants.{I}
-use Rattle.hv_unit_model.specs.Trees.{Tree, greatest_size}
-use Rattle.hv_unit_model.specs.Sites.{Site, site, sites, sites_from, blocks_over, ctb_side, ctb_column, ctb_row, column_of, row_of}
+use Rattle.hv_tables.specs.declared.bins.SliceKind.TheVariants.{I}
+use Rattle.hv_tree_model.specs.Trees.{Tree, greatest_size}
+use Rattle.hv_tree_model.specs.Sites.{Site, site, sites, sites_from, blocks_over, ctb_side, ctb_column, ctb_row, column_of, row_of}
 use Rattle.hv_recon_model.specs.Reconstruction.{Decoded, nothing_decoded, decoded_trees}
 use Rattle.hv_recon_model.specs.ReconstructionLaws.{AreTrees, EverySampleIsDecoded}
 use Rattle.hv_recon_model.proofs.DecodedLemmas.{Keep, keep_all, keep_then, Cover, cover_later, LiesIn, LiesAt, tree_behind}

@@ -7,9 +7,9 @@ use Rattle.std.proofs.lemmas.Bool.Decides.{nat_tests}
 use Rattle.std.proofs.Math.Nat.{pow-suc}
 use Rattle.hv_lemmas.proofs.BooleanLemmas.{or_right}
 use Rattle.hv_lemmas.proofs.ComputedLemmas.{all_below, holds_below}
-use Rattle.hv_unit_model.specs.Trees.{Intra}
-use Rattle.hv_unit_model.specs.Sites.{address_of, column_of, row_of, squares}
-use Rattle.hv_unit_model.proofs.NodeLemmas.{IsNode}
+use Rattle.hv_tree_model.specs.Trees.{Intra}
+use Rattle.hv_tree_model.specs.Sites.{address_of, column_of, row_of, squares}
+use Rattle.hv_tree_model.proofs.NodeLemmas.{IsNode}
 use Rattle.hv_recon_model.specs.Reconstruction.{Component, square_at, is_in, with_block, decoded_block}
 use Rattle.hv_recon_model.specs.SeenSamples.{Spot, SamplesAround, IsSeen, IsPut, seen_line, seen_block}
 use Rattle.hv_recon_model.proofs.SeenLemmas.{FitsIn, FitsInPicture, ComesBetween, neighbours_seen, seen_behind}

@@ -5,8 +5,8 @@ use Rattle.std.specs.Prelude.{slice_get, Option, Some, None, option_and_then, is
 use Rattle.std.proofs.Math.Nat.{div-add-mod, mul_comm, mul-le-mul_right, add-mul, mod-lt, mul-pos}
 use Rattle.std.proofs.lemmas.Bool.{true≢false}
 use Rattle.hv_lemmas.proofs.OptionLemmas.{some_same}
-use Rattle.hv_unit_model.specs.Trees.{Tree, greatest_size}
-use Rattle.hv_unit_model.specs.Sites.{site, sites, sites_from, blocks_over, ctb_side, ctb_column, ctb_row}
+use Rattle.hv_tree_model.specs.Trees.{Tree, greatest_size}
+use Rattle.hv_tree_model.specs.Sites.{site, sites, sites_from, blocks_over, ctb_side, ctb_column, ctb_row}
 use Rattle.hv_recon_model.specs.Reconstruction.{Component, Decoded, nothing_decoded, decoded_tree, decoded_trees}
 use Rattle.hv_recon_model.specs.LocalityLaws.{SameEdges, SameBlock, SameEdgesAround, SameBlockThere, PicturesAreLocal}
 use Rattle.hv_recon_model.proofs.DecodedLemmas.{Step, and_then}

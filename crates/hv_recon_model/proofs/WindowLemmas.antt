@@ -8,7 +8,7 @@ use Rattle.hv_lemmas.proofs.ListLemmas.{tabulate-same}
 use Rattle.hv_sample_model.specs.IntraPrediction.{substituted, predicted}
 use Rattle.hv_sample_model.specs.InverseTransform.{residual}
 use Rattle.hv_tables.specs.Quantisers.{chroma_qp}
-use Rattle.hv_unit_model.specs.Trees.{Prediction, Intra, Inter, TransformUnit, Tree, Leaf, Split, Outside, side}
+use Rattle.hv_tree_model.specs.Trees.{Prediction, Intra, Inter, TransformUnit, Tree, Leaf, Split, Outside, side}
 use Rattle.hv_recon_model.specs.Reconstruction.{Component, Decoded, Square, square_at, quarter, is_in, left_of, above_of, neighbours, sum_of, decoded_block, decoded_unit, decoded_quarters, decoded_units, decoded_tree}
 use Rattle.hv_recon_model.proofs.DecodedLemmas.{Step, side_double}
 use Rattle.hv_recon_model.proofs.BesideLemmas.{LiesWithin, sides}

@@ -6,8 +6,8 @@ use Rattle.hv_lemmas.specs.Lists.{tabulate}
 use Rattle.hv_sample_model.specs.Blocks.{sum_of, total_of}
 use Rattle.hv_sample_model.specs.IntraPrediction.{predicted}
 use Rattle.hv_sample_model.specs.InverseTransform.{residual}
-use Rattle.hv_unit_model.specs.Trees.{Motion, Intra, Inter, TransformUnit, Tree, Leaf, Split, Outside, no_levels, no_units}
-use Rattle.hv_unit_model.specs.Sites.{sites}
+use Rattle.hv_tree_model.specs.Trees.{Motion, Intra, Inter, TransformUnit, Tree, Leaf, Split, Outside, no_levels, no_units}
+use Rattle.hv_tree_model.specs.Sites.{sites}
 use Rattle.hv_recon_model.specs.Reconstruction.{Component, Decoded, nothing_decoded, decoded_block, decoded_tree, decoded_trees}
 
 abbrev first_only : ℕ → ℤ → List ℤ

@@ -1,12 +1,12 @@
 -- Pictures in which nothing is chosen: all that is decoded of them is grey.
 use Rattle.std.specs.Prelude.{◌≡◌, ℕ, ◌/◌, Bool, true, false, not, nat_eq, ◌&&◌, List, Some}
 use Rattle.std.specs.List.{list_all}
-use Rattle.hv_types.specs.declared.bins.SliceKind.TheVariants.{I}
+use Rattle.hv_tables.specs.declared.bins.SliceKind.TheVariants.{I}
 use Rattle.hv_types.specs.declared.picture.Picture.{Picture}
 use Rattle.hv_types.specs.Samples.{filled_plane}
-use Rattle.hv_unit_model.specs.Trees.{Intra, Inter, Tree, Leaf, Split, Outside, any_level}
-use Rattle.hv_unit_model.specs.Sites.{sites}
-use Rattle.hv_unit_model.specs.MostProbableModes.{dc}
+use Rattle.hv_tree_model.specs.Trees.{Intra, Inter, Tree, Leaf, Split, Outside, any_level}
+use Rattle.hv_tree_model.specs.Sites.{sites}
+use Rattle.hv_tree_model.specs.MostProbableModes.{dc}
 use Rattle.hv_recon_model.specs.Reconstruction.{unfiltered}
 use Rattle.hv_recon_model.specs.ReconstructionLaws.{AreTrees}
 

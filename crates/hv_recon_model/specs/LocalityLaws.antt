@@ -1,7 +1,7 @@
 -- The four blocks around a coding tree block determine what is decoded in it.
 use Rattle.std.specs.Prelude.{◌≡◌, ℕ, ◌+◌, ◌-◌, ◌*◌, ◌/◌, ◌<◌, List, slice_get, Some}
-use Rattle.hv_unit_model.specs.Trees.{Tree, greatest_size}
-use Rattle.hv_unit_model.specs.Sites.{Site, site, sites, sites_from, blocks_over, ctb_side, ctb_column, ctb_row}
+use Rattle.hv_tree_model.specs.Trees.{Tree, greatest_size}
+use Rattle.hv_tree_model.specs.Sites.{Site, site, sites, sites_from, blocks_over, ctb_side, ctb_column, ctb_row}
 use Rattle.hv_recon_model.specs.Reconstruction.{Component, Decoded, nothing_decoded, decoded_tree, decoded_trees}
 
 -- In one colour component, whose blocks have this side: two pictures have the same samples in the

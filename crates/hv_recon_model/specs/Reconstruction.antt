@@ -9,8 +9,8 @@ use Rattle.hv_types.specs.Samples.{Plane, plane_of}
 use Rattle.hv_tables.specs.Quantisers.{chroma_qp}
 use Rattle.hv_sample_model.specs.IntraPrediction.{substituted, predicted}
 use Rattle.hv_sample_model.specs.InverseTransform.{residual}
-use Rattle.hv_unit_model.specs.Trees.{Prediction, Intra, Inter, TransformUnit, Tree, Leaf, Split, Outside, side, greatest_size}
-use Rattle.hv_unit_model.specs.Sites.{Site, ctb_side, ctb_column, ctb_row}
+use Rattle.hv_tree_model.specs.Trees.{Prediction, Intra, Inter, TransformUnit, Tree, Leaf, Split, Outside, side, greatest_size}
+use Rattle.hv_tree_model.specs.Sites.{Site, ctb_side, ctb_column, ctb_row}
 
 -- ---- what is decoded so far
 

@@ -1,10 +1,10 @@
 -- Every sample of an I picture is decoded.
 use Rattle.std.specs.Prelude.{◌≡◌, ℕ, ◌/◌, ◌<◌, true, List, [], ◌∷◌, is_some, Some}
-use Rattle.hv_types.specs.declared.bins.SliceKind.{SliceKind}
-use Rattle.hv_types.specs.declared.bins.SliceKind.TheVariants.{I}
-use Rattle.hv_unit_model.specs.Trees.{Tree}
-use Rattle.hv_unit_model.specs.Sites.{Site, sites}
-use Rattle.hv_unit_model.specs.Validity.{IsValidTree}
+use Rattle.hv_tables.specs.declared.bins.SliceKind.{SliceKind}
+use Rattle.hv_tables.specs.declared.bins.SliceKind.TheVariants.{I}
+use Rattle.hv_tree_model.specs.Trees.{Tree}
+use Rattle.hv_tree_model.specs.Sites.{Site, sites}
+use Rattle.hv_tree_model.specs.Validity.{IsValidTree}
 use Rattle.hv_recon_model.specs.Reconstruction.{Component, Decoded, nothing_decoded, decoded_trees}
 
 -- there is one tree for each block, which may be coded there

@@ -4,7 +4,7 @@ use Rattle.std.specs.Prelude.{◌≡◌, ℕ, ◌+◌, ◌-◌, ◌*◌, ◌/◌
 use Rattle.hv_lemmas.specs.Lists.{tabulate}
 use Rattle.hv_sample_model.specs.IntraPrediction.{predicted, substituted}
 use Rattle.hv_sample_model.specs.InverseTransform.{residual}
-use Rattle.hv_unit_model.specs.Sites.{Site, ctb_side, ctb_column, ctb_row, address_of}
+use Rattle.hv_tree_model.specs.Sites.{Site, ctb_side, ctb_column, ctb_row, address_of}
 use Rattle.hv_recon_model.specs.Reconstruction.{Component, square_at, with_block, sum_of}
 
 -- ---- a block in one colour component

@@ -8,13 +8,14 @@ use Rattle.std.proofs.lemmas.Bool.Decides.{nat_tests}
 use Rattle.std.proofs.lemmas.Bool.{leb-true, leb-false}
 use Rattle.hv_lemmas.proofs.ComparisonLemmas.{lt_below, lt_not_below, zero_lt_suc}
 use Rattle.hv_residual_model.proofs.LevelLemmas.{as_many_signs}
-use Rattle.hv_types.specs.declared.bins.CtxTable.TheVariants.{LastX, LastY}
+use Rattle.hv_tables.specs.declared.bins.CtxTable.TheVariants.{LastX, LastY}
 use Rattle.hv_residual_model.specs.UnitBins.{UnitQuestion, InBypass, UnitBin, unit_bin}
 use Rattle.hv_residual_model.specs.Binarization.{fixed_length_bins, truncated_unary_bins, exp_golomb_bins, bypass_at, remaining_bins}
 use Rattle.hv_residual_model.specs.ScanOrder.{Position, block_position}
 use Rattle.hv_residual_model.specs.ResidualContexts.{TransformBlock, ctxSet}
 use Rattle.hv_residual_model.specs.ResidualSyntax.{Earlier, nothing_earlier, sig_coeff_of, any, bases, positions, suffix_length, first_of_prefix, swapped_in}
-use Rattle.hv_residual_model.specs.ResidualBins.{is_significant, magnitudes, signs, only_if_so, sig_coeff_bins, greater1_bins, greater2_bins, sign_bins, all_remaining_bins, bases_of, greater1_values, first_above_1, level_bins, levels_below, coded_sub_block_value, coded_sub_block_bins, sub_block_bins, behind_levels, sub_blocks_bins, last_sub_block_bins, downwards, last_bins, last_suffix_bins, last_prefix_bins, prefix_of, level_at, last_significant, residual_bins}
+use Rattle.hv_residual_model.specs.ResidualBins.{magnitudes, signs, only_if_so, sig_coeff_bins, greater1_bins, greater2_bins, sign_bins, all_remaining_bins, bases_of, greater1_values, first_above_1, level_bins, levels_below, coded_sub_block_value, coded_sub_block_bins, sub_block_bins, behind_levels, sub_blocks_bins, last_sub_block_bins, downwards, last_bins, last_suffix_bins, last_prefix_bins, prefix_of, level_at, last_significant, residual_bins}
+use Rattle.hv_plan.specs.Levels.{is_significant}
 use Rattle.hv_residual.specs.Levels.{zeros_before}
 use Rattle.hv_residual.specs.Counts.{sig_count, level_count, coded_count, flag_count, sub_block_count, sub_blocks_count}
 use Rattle.hv_residual.proofs.BinLemmas.{below, low_level, high_level}

@@ -7,7 +7,8 @@ use Rattle.hv_residual_model.proofs.SubBlockLemmas.{as_many}
 use Rattle.hv_residual_model.specs.ScanOrder.{Position}
 use Rattle.hv_residual_model.specs.ResidualContexts.{TransformBlock, ctxSet}
 use Rattle.hv_residual_model.specs.ResidualSyntax.{Earlier, had_greater1_after, sub_block_at, right_flag, below_flag, positions, any}
-use Rattle.hv_residual_model.specs.ResidualBins.{sig_coeff_bins, level_bins, greater1_of, greater1_bins, greater2_bins, sign_bins, all_remaining_bins, greater1_values, first_above_1, magnitudes, signs, any_significant, levels_below, downwards, coded_sub_block_value, coded_sub_block_bins, sub_block_bins, behind_levels, sub_blocks_bins, last_sub_block_bins, level_at}
+use Rattle.hv_residual_model.specs.ResidualBins.{sig_coeff_bins, level_bins, greater1_of, greater1_bins, greater2_bins, sign_bins, all_remaining_bins, greater1_values, first_above_1, magnitudes, signs, levels_below, downwards, coded_sub_block_value, coded_sub_block_bins, sub_block_bins, behind_levels, sub_blocks_bins, last_sub_block_bins, level_at}
+use Rattle.hv_plan.specs.Levels.{any_significant}
 use Rattle.hv_residual_model.specs.ResidualSyntax.{bases}
 use Rattle.hv_residual.specs.Levels.{sig_question}
 use Rattle.hv_residual.specs.Earlier.{coded_flag_bins, flag_value, coded_bins, had_behind}

@@ -6,7 +6,8 @@ use Rattle.std.proofs.lemmas.List.{take_more_set}
 use Rattle.hv_residual_model.specs.ScanOrder.{Position, at, position_at, block_position}
 use Rattle.hv_residual_model.specs.ResidualContexts.{TransformBlock}
 use Rattle.hv_residual_model.specs.ResidualSyntax.{sub_block_at}
-use Rattle.hv_residual_model.specs.ResidualBins.{level_at, downwards, levels_below, is_significant, last_below, last_significant}
+use Rattle.hv_residual_model.specs.ResidualBins.{level_at, downwards, levels_below, last_below, last_significant}
+use Rattle.hv_plan.specs.Levels.{is_significant}
 use Rattle.hv_residual.specs.Levels.{zeros_before, with_gaps}
 use Rattle.hv_residual.proofs.FlagLemmas.{split_at}
 use Rattle.hv_residual.proofs.ScanLemmas.{inside_sub_block}

@@ -1,9 +1,9 @@
 -- Laws of what is put: nothing, one part after another, and the rest of a whole.
 use Rattle.std.proofs.Common.{◌≡◌, ℕ, Bool, List, [], ◌∷◌, ◌++◌, map, refl, sym, ap, ◌∙◌, subst, append_assoc, append-nil}
 use Rattle.std.proofs.lemmas.List.{map-append}
-use Rattle.hv_types.specs.declared.bins.Ctx.{Ctx}
-use Rattle.hv_types.specs.declared.bins.SliceKind.{SliceKind}
-use Rattle.hv_types.specs.Bins.{Bin}
+use Rattle.hv_tables.specs.declared.bins.Ctx.{Ctx}
+use Rattle.hv_tables.specs.declared.bins.SliceKind.{SliceKind}
+use Rattle.hv_tables.specs.Bins.{Bin}
 use Rattle.hv_residual_model.specs.UnitBins.{UnitQuestion, ByContext, unit_bin, UnitBin, PutsUnit, slice_bin}
 use Rattle.hv_residual.specs.Putting.{Going}
 

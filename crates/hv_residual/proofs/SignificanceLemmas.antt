@@ -6,7 +6,8 @@ use Rattle.std.proofs.lemmas.List.{take-set, take_more_set}
 use mir.Val.{bool_byte}
 use Rattle.std.proofs.Math.Dec.{eqb-suc-zero}
 use Rattle.hv_residual_model.specs.UnitBins.{UnitQuestion, unit_bin}
-use Rattle.hv_residual_model.specs.ResidualBins.{is_significant, magnitudes, signs, only_if_so, sig_coeff_bins}
+use Rattle.hv_residual_model.specs.ResidualBins.{magnitudes, signs, only_if_so, sig_coeff_bins}
+use Rattle.hv_plan.specs.Levels.{is_significant}
 use Rattle.hv_residual.specs.Levels.{one_sig_bins}
 use Rattle.hv_residual.proofs.FlagLemmas.{split_at}
 

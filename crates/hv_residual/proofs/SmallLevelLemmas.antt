@@ -3,7 +3,8 @@ use Rattle.std.proofs.Common.{◌≡◌, ◌≤◌, ◌<◌, ◌+◌, ℕ, zero,
 use Rattle.std.specs.Int.RustNames.{unsigned_abs}
 use Rattle.hv_residual_model.specs.Binarization.{truncated_unary_bins, remaining_bins}
 use Rattle.hv_residual_model.specs.ResidualSyntax.{any}
-use Rattle.hv_residual_model.specs.ResidualBins.{is_significant, magnitudes, greater1_values, first_above_1, all_remaining_bins}
+use Rattle.hv_residual_model.specs.ResidualBins.{magnitudes, greater1_values, first_above_1, all_remaining_bins}
+use Rattle.hv_plan.specs.Levels.{is_significant}
 use Rattle.hv_residual.specs.Counts.{level_count, greatest_magnitude, small_count}
 use Rattle.hv_residual.proofs.FlagLemmas.{split_at}
 use Rattle.hv_residual.proofs.RemainingLemmas.{here}

@@ -3,7 +3,8 @@ use Rattle.std.specs.Prelude.{ℕ, zero, suc, ◌+◌, Bool, true, false, cond, 
 use Rattle.std.specs.Int.RustNames.{unsigned_abs}
 use Rattle.hv_residual_model.specs.ResidualContexts.{TransformBlock}
 use Rattle.hv_residual_model.specs.ResidualSyntax.{any, positions}
-use Rattle.hv_residual_model.specs.ResidualBins.{is_significant, magnitudes, greater1_values, bases_of, all_remaining_bins, levels_below, coded_sub_block_value}
+use Rattle.hv_residual_model.specs.ResidualBins.{magnitudes, greater1_values, bases_of, all_remaining_bins, levels_below, coded_sub_block_value}
+use Rattle.hv_plan.specs.Levels.{is_significant}
 
 -- sig_coeff_flag
 abbrev pub sig_count : List ℤ → Bool → ℕ

@@ -3,7 +3,7 @@ use Rattle.std.specs.Prelude.{â„•, zero, suc, Bool, true, false, cond, nat_eq, â
 use Rattle.hv_residual_model.specs.UnitBins.{UnitQuestion, UnitBin, unit_bin}
 use Rattle.hv_residual_model.specs.ScanOrder.{Position, position_at}
 use Rattle.hv_residual_model.specs.ResidualContexts.{TransformBlock, sig_coeff_at}
-use Rattle.hv_residual_model.specs.ResidualBins.{is_significant}
+use Rattle.hv_plan.specs.Levels.{is_significant}
 use Rattle.hv_residual_model.specs.Binarization.{remaining_bins}
 use Rattle.hv_residual_model.specs.ResidualSyntax.{Base, base}
 

@@ -1,7 +1,7 @@
 -- Bins of a unit that are put one part after another.
 use Rattle.std.specs.Prelude.{◌≡◌, ℕ, List, ◌++◌}
-use Rattle.hv_types.specs.declared.bins.SliceKind.{SliceKind}
-use Rattle.hv_types.specs.Bins.{Bin}
+use Rattle.hv_tables.specs.declared.bins.SliceKind.{SliceKind}
+use Rattle.hv_tables.specs.Bins.{Bin}
 use Rattle.hv_residual_model.specs.UnitBins.{UnitBin, PutsUnit}
 
 -- of all bins that are to be put, those before the rest are put

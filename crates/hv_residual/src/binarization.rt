@@ -4,7 +4,7 @@ ghost use Rattle.std.specs.Prelude.{◌≡◌, ◌^◌, ◌<◌, ◌≤◌};
 ghost use Rattle.hv_residual_model.specs.UnitBins.{PutsUnit};
 ghost use Rattle.hv_residual_model.specs.Binarization.{fixed_length_bins, truncated_unary_bins, exp_golomb_bins, bypass_at, remaining_bins};
 
-use hv_types::BinSink;
+use hv_tables::BinSink;
 
 /// A power of two.
 #[inline(always)]

@@ -11,7 +11,7 @@ ghost use Rattle.hv_residual.specs.ContextTables.{of_map, is_below};
 
 use crate::block::{Block, Spot};
 use hv_plan::Scan;
-use hv_types::{Ctx, CtxTable};
+use hv_tables::{Ctx, CtxTable};
 
 /// ctxIdxMap (9.3.4.2.5) of a block of 4x4, along each scan; 0 at the last position, whose flag is
 /// never coded.

@@ -5,7 +5,8 @@ ghost use Rattle.std.specs.Prelude.{◌≡◌, ◌+◌, ◌-◌, ◌*◌, ◌^�
 ghost use Rattle.hv_residual_model.specs.UnitBins.{UnitQuestion};
 ghost use Rattle.hv_residual_model.specs.Binarization.{exp_golomb_bins, remaining_bins, truncated_unary_bins};
 ghost use Rattle.hv_residual_model.specs.ResidualSyntax.{bases, positions, suffix_length};
-ghost use Rattle.hv_residual_model.specs.ResidualBins.{any_significant, residual_bins, all_remaining_bins, greater1_values, levels_below, last_bins, prefix_of};
+ghost use Rattle.hv_residual_model.specs.ResidualBins.{residual_bins, all_remaining_bins, greater1_values, levels_below, last_bins, prefix_of};
+ghost use Rattle.hv_plan.specs.Levels.{any_significant};
 ghost use Rattle.hv_residual.specs.Blocks.{block_of};
 ghost use Rattle.hv_residual.specs.Levels.{one_remaining_bins, zeros_before};
 ghost use Rattle.hv_residual.specs.Counts.{sig_count, level_count, coded_count, flag_count, sub_block_count, sub_blocks_count, greatest_magnitude};

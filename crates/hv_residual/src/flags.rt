@@ -8,7 +8,7 @@ ghost use Rattle.hv_residual_model.specs.ResidualBins.{greater1_bins, greater2_b
 ghost use Rattle.hv_residual.specs.Blocks.{block_of};
 
 use crate::block::Block;
-use hv_types::{BinSink, Ctx, CtxTable};
+use hv_tables::{BinSink, Ctx, CtxTable};
 
 /// ctxSet of a sub-block of this number, where a greater1 flag was 1 in the last one before it that
 /// had such flags, or not (9.3.4.2.6).

@@ -16,7 +16,7 @@ use crate::block::{Block, Corner};
 use crate::gathering::Last;
 use crate::scans::{place_in, sub_block};
 use hv_plan::Scan;
-use hv_types::{BinSink, Ctx, CtxTable};
+use hv_tables::{BinSink, Ctx, CtxTable};
 
 /// The prefix of each coordinate (7.4.9.11).
 #[rattlefmt::skip]

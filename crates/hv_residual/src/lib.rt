@@ -26,6 +26,6 @@ mod tests;
 pub use binarization::{put_exp_golomb, put_fixed_length, put_truncated_unary};
 pub use counting::{count_exp_golomb, count_residual};
 pub use hv_plan::{Pred, Scan};
-pub use hv_types::BinSink;
+pub use hv_tables::BinSink;
 pub use residual::{put_residual, scan_of};
 pub use significance::any_significant;

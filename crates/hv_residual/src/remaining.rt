@@ -7,7 +7,7 @@ ghost use Rattle.hv_residual_model.specs.ResidualBins.{all_remaining_bins, great
 ghost use Rattle.hv_residual.specs.Levels.{base_at, first_at, one_remaining_bins};
 
 use crate::binarization::{power, put_remaining};
-use hv_types::BinSink;
+use hv_tables::BinSink;
 
 /// What the flags say of a level: `baseLevel`, and whether coeff_abs_level_remaining follows.
 #[derive(Clone, Copy)]

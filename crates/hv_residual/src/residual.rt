@@ -3,14 +3,15 @@
 ghost use Rattle.std.specs.Prelude.{◌≡◌, ◌*◌, ◌^◌, ◌≤◌, ◌&&◌, ◌||◌, length, nat_eq, true};
 ghost use Rattle.hv_residual_model.specs.UnitBins.{PutsUnit};
 ghost use Rattle.hv_residual_model.specs.ScanOrder.{scan_of_mode, scanIdx_of};
-ghost use Rattle.hv_residual_model.specs.ResidualBins.{any_significant, residual_bins};
+ghost use Rattle.hv_residual_model.specs.ResidualBins.{residual_bins};
+ghost use Rattle.hv_plan.specs.Levels.{any_significant};
 
 use crate::block::Block;
 use crate::gathering::find_last;
 use crate::last::put_last;
 use crate::sub_blocks::{put_last_sub_block, put_sub_blocks};
 use hv_plan::{Pred, Scan};
-use hv_types::BinSink;
+use hv_tables::BinSink;
 
 /// The scan of blocks whose scan depends on the intra prediction mode (7.4.9.11).
 #[inline(always)]

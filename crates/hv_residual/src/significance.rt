@@ -1,13 +1,14 @@
 //! sig_coeff_flag of a sub-block, and its levels that aren't 0 (7.3.8.11).
 ghost use Rattle.std.specs.Prelude.{◌≡◌, ◌<◌, ◌≤◌, ◌&&◌, not, nat_eq, length, take};
 ghost use Rattle.hv_residual_model.specs.UnitBins.{PutsUnit};
-ghost use Rattle.hv_residual_model.specs.ResidualBins.{is_significant, any_significant, magnitudes, signs, sig_coeff_bins};
+ghost use Rattle.hv_residual_model.specs.ResidualBins.{magnitudes, signs, sig_coeff_bins};
+ghost use Rattle.hv_plan.specs.Levels.{is_significant, any_significant};
 ghost use Rattle.hv_residual.specs.Blocks.{block_of, spot_of};
 ghost use Rattle.hv_residual.specs.Levels.{one_sig_bins, sig_question};
 
 use crate::block::{Block, Spot};
 use crate::contexts::sig_context;
-use hv_types::BinSink;
+use hv_tables::BinSink;
 
 /// Whether a level isn't 0.
 #[inline(always)]

@@ -15,7 +15,7 @@ use crate::gathering::{Last, gather};
 use crate::remaining::put_all_remaining;
 use crate::scans::sub_block;
 use crate::significance::{any_significant, nonzero_levels, put_significance};
-use hv_types::BinSink;
+use hv_tables::BinSink;
 
 /// Whether a greater1 flag was 1 in the last sub-block that had such flags: so many levels that
 /// aren't 0, of which the first above 1 of the first eight is `first`, come behind `had`.

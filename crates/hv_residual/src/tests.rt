@@ -4,11 +4,11 @@
 //! 1 and `-` for 0; and the value alone for a bin in bypass.
 
 ghost use Rattle.std.specs.Prelude.{◌≡◌, ◌*◌, ◌^◌, ◌≤◌, length, true};
-ghost use Rattle.hv_residual_model.specs.ResidualBins.{any_significant};
+ghost use Rattle.hv_plan.specs.Levels.{any_significant};
 
 use crate::{BinSink, Pred, Scan, any_significant, count_residual, put_residual, scan_of};
 use hv_plan::Mv;
-use hv_types::{Ctx, CtxTable};
+use hv_tables::{Ctx, CtxTable};
 
 /// A sink that compares the bins with a row, and counts them.
 #[derive(Drop)]

@@ -3,16 +3,17 @@ use Rattle.std.proofs.Common.{◌≡◌, ℕ, zero, suc, ◌+◌, ◌-◌, ◌*�
 use Rattle.std.specs.Prelude.{nat_lt, nat_eq, ◌&&◌, ◌||◌, min, slice_index_or}
 use Rattle.std.proofs.Math.Nat.{min-le_left}
 use Rattle.hv_lemmas.proofs.ComputedLemmas.{all_below, holds_below}
-use Rattle.hv_types.specs.declared.bins.SliceKind.{SliceKind}
-use Rattle.hv_types.specs.declared.bins.SliceKind.TheVariants.{I, P}
-use Rattle.hv_types.specs.declared.bins.CtxTable.TheVariants.{LastX, LastY, CodedSub, Sig, Greater1, Greater2}
+use Rattle.hv_tables.specs.declared.bins.SliceKind.{SliceKind}
+use Rattle.hv_tables.specs.declared.bins.SliceKind.TheVariants.{I, P}
+use Rattle.hv_tables.specs.declared.bins.CtxTable.TheVariants.{LastX, LastY, CodedSub, Sig, Greater1, Greater2}
 use Rattle.hv_plan.specs.declared.prediction.Scan.{Scan}
 use Rattle.hv_residual_model.specs.UnitBins.{UnitQuestion, InBypass, UnitBin, unit_bin, context}
 use Rattle.hv_residual_model.specs.Binarization.{fixed_length_bins, truncated_unary_bins, exp_golomb_bins, bypass_at, remaining_bins}
 use Rattle.hv_residual_model.specs.ScanOrder.{Position, position_at, block_position}
 use Rattle.hv_residual_model.specs.ResidualContexts.{TransformBlock, ctxOffset, ctxShift, last_prefix_at, number, csbfCtx, ctxIdxMap, by_distance, by_neighbours, is_diagonal, added_in_luma, added_in_chroma, sig_coeff_at, ctxSet, next_greater1Ctx, greater2_at}
 use Rattle.hv_residual_model.specs.ResidualSyntax.{swapped_in, Earlier, nothing_earlier, sub_block_at, right_flag, below_flag, any, sig_coeff_of, Base, next_cRiceParam, most_greater1_flags, positions}
-use Rattle.hv_residual_model.specs.ResidualBins.{is_significant, levels_below, last_significant, prefix_of, last_prefix_bins, last_suffix_bins, last_bins, sig_coeff_bins, magnitudes, signs, greater1_values, greater1_bins, greater2_value, greater2_bins, sign_bins, all_remaining_bins, bases_of, level_bins, coded_sub_block_value, coded_sub_block_bins, sub_block_bins, behind_levels, sub_blocks_bins, last_sub_block_bins, bins_from, residual_bins}
+use Rattle.hv_residual_model.specs.ResidualBins.{levels_below, last_significant, prefix_of, last_prefix_bins, last_suffix_bins, last_bins, sig_coeff_bins, magnitudes, signs, greater1_values, greater1_bins, greater2_value, greater2_bins, sign_bins, all_remaining_bins, bases_of, level_bins, coded_sub_block_value, coded_sub_block_bins, sub_block_bins, behind_levels, sub_blocks_bins, last_sub_block_bins, bins_from, residual_bins}
+use Rattle.hv_plan.specs.Levels.{is_significant}
 use Rattle.hv_residual_model.specs.ResidualLaws.{HasSide, IsAskedIn, AreAskedIn, LevelsAskForVariablesThatAreThere}
 use Rattle.hv_residual_model.proofs.SubBlockLemmas.{all_or}
 

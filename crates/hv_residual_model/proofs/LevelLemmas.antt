@@ -10,8 +10,9 @@ use Rattle.hv_stream_model.specs.Scripts.{Done, only_if, ◌>>=◌, Reads, nothi
 use Rattle.hv_stream_model.proofs.ScriptLemmas.{reads_then, reads_map, reads_ask, where_true}
 use Rattle.hv_residual_model.specs.UnitBins.{UnitQuestion, unit_bin}
 use Rattle.hv_residual_model.specs.ResidualContexts.{TransformBlock, next_greater1Ctx, greater2_at}
-use Rattle.hv_residual_model.specs.ResidualSyntax.{any, sig_coeff_flags, greater1_flags, greater2_flag, sign_flags, Base, base, bases, next_cRiceParam, with_sign, has_16_bits, significant_levels, count, with_zeros, SubBlock, most_greater1_flags, levels_of_flags}
-use Rattle.hv_residual_model.specs.ResidualBins.{is_significant, any_significant, sig_coeff_bins, only_if_so, magnitudes, signs, greater1_values, greater1_bins, first_above_1, greater2_value, greater2_bins, sign_bins, all_remaining_bins, bases_of, level_bins, greater1_of}
+use Rattle.hv_residual_model.specs.ResidualSyntax.{any, sig_coeff_flags, greater1_flags, greater2_flag, sign_flags, Base, base, bases, next_cRiceParam, with_sign, significant_levels, count, with_zeros, SubBlock, most_greater1_flags, levels_of_flags}
+use Rattle.hv_plan.specs.Levels.{has_16_bits, is_significant, any_significant}
+use Rattle.hv_residual_model.specs.ResidualBins.{sig_coeff_bins, only_if_so, magnitudes, signs, greater1_values, greater1_bins, first_above_1, greater2_value, greater2_bins, sign_bins, all_remaining_bins, bases_of, level_bins, greater1_of}
 use Rattle.hv_residual_model.proofs.UnitBinLemmas.{reads_value}
 use Rattle.hv_residual_model.proofs.BinarizationLemmas.{reads_remaining}
 

@@ -9,7 +9,8 @@ use Rattle.hv_stream_model.specs.Scripts.{Done, Ask, Fail, only_if, ◌>>=◌, R
 use Rattle.hv_residual_model.specs.UnitBins.{UnitBin, UnitScript}
 use Rattle.hv_residual_model.specs.Binarization.{coeff_abs_level_remaining}
 use Rattle.hv_residual_model.specs.ResidualContexts.{TransformBlock, ctxSet}
-use Rattle.hv_residual_model.specs.ResidualSyntax.{Earlier, nothing_earlier, behind_sub_block, sig_coeff_of, sig_coeff_flags, greater1_flags, greater2_flag, sign_flags, Base, base, bases, next_cRiceParam, with_sign, has_16_bits, significant_levels, count, with_zeros, SubBlock, most_greater1_flags, levels_of_flags, last_sub_block, positions, coded_sub_block_flag, sub_block, sub_blocks_below, last_sig_coeff, level_of_number, by_rows, residual_coding}
+use Rattle.hv_residual_model.specs.ResidualSyntax.{Earlier, nothing_earlier, behind_sub_block, sig_coeff_of, sig_coeff_flags, greater1_flags, greater2_flag, sign_flags, Base, base, bases, next_cRiceParam, with_sign, significant_levels, count, with_zeros, SubBlock, most_greater1_flags, levels_of_flags, last_sub_block, positions, coded_sub_block_flag, sub_block, sub_blocks_below, last_sig_coeff, level_of_number, by_rows, residual_coding}
+use Rattle.hv_plan.specs.Levels.{has_16_bits}
 use Rattle.hv_residual_model.specs.ResidualLaws.{LevelsThatAreReadHave16Bits}
 use Rattle.hv_residual_model.proofs.SubBlockLemmas.{AllSmall, all_or}
 

@@ -11,8 +11,9 @@ use Rattle.hv_stream_model.specs.Scripts.{Done, ◌>>=◌, Reads}
 use Rattle.hv_stream_model.proofs.ScriptLemmas.{reads_then, reads_map}
 use Rattle.hv_residual_model.specs.ScanOrder.{at, block_number}
 use Rattle.hv_residual_model.specs.ResidualContexts.{TransformBlock}
-use Rattle.hv_residual_model.specs.ResidualSyntax.{has_16_bits, nothing_earlier, behind_sub_block, last_sub_block, sub_blocks_below, level_of_number, by_rows, residual_coding}
-use Rattle.hv_residual_model.specs.ResidualBins.{level_at, downwards, levels_below, is_significant, any_significant, last_below, last_significant, last_sub_block_bins, behind_levels, bins_from, residual_bins}
+use Rattle.hv_residual_model.specs.ResidualSyntax.{nothing_earlier, behind_sub_block, last_sub_block, sub_blocks_below, level_of_number, by_rows, residual_coding}
+use Rattle.hv_plan.specs.Levels.{has_16_bits, is_significant, any_significant}
+use Rattle.hv_residual_model.specs.ResidualBins.{level_at, downwards, levels_below, last_below, last_significant, last_sub_block_bins, behind_levels, bins_from, residual_bins}
 use Rattle.hv_residual_model.specs.ResidualLaws.{HasSide, AreLevels}
 use Rattle.hv_residual_model.proofs.UnitBinLemmas.{reads_value}
 use Rattle.hv_residual_model.proofs.ScanLemmas.{comes}

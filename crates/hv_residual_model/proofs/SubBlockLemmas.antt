@@ -6,8 +6,9 @@ use Rattle.std.proofs.lemmas.Bool.{and_parts}
 use Rattle.hv_stream_model.specs.Scripts.{Done, ◌>>=◌, Reads, nothing}
 use Rattle.hv_stream_model.proofs.ScriptLemmas.{reads_then, reads_map, reads_ask}
 use Rattle.hv_residual_model.specs.ResidualContexts.{TransformBlock, coded_sub_block_at, ctxSet}
-use Rattle.hv_residual_model.specs.ResidualSyntax.{Earlier, nothing_earlier, sub_block_at, right_flag, below_flag, behind_sub_block, sig_coeff_of, sig_coeff_flags, has_16_bits, SubBlock, levels_of_flags, last_sub_block, positions, coded_sub_block_flag, sub_block, sub_blocks_below}
-use Rattle.hv_residual_model.specs.ResidualBins.{level_at, downwards, levels_below, is_significant, any_significant, sig_coeff_bins, level_bins, coded_sub_block_value, coded_sub_block_bins, sub_block_bins, greater1_if, behind_levels, sub_blocks_bins, last_sub_block_bins}
+use Rattle.hv_residual_model.specs.ResidualSyntax.{Earlier, nothing_earlier, sub_block_at, right_flag, below_flag, behind_sub_block, sig_coeff_of, sig_coeff_flags, SubBlock, levels_of_flags, last_sub_block, positions, coded_sub_block_flag, sub_block, sub_blocks_below}
+use Rattle.hv_plan.specs.Levels.{has_16_bits, is_significant, any_significant}
+use Rattle.hv_residual_model.specs.ResidualBins.{level_at, downwards, levels_below, sig_coeff_bins, level_bins, coded_sub_block_value, coded_sub_block_bins, sub_block_bins, greater1_if, behind_levels, sub_blocks_bins, last_sub_block_bins}
 use Rattle.hv_residual_model.proofs.UnitBinLemmas.{reads_value}
 use Rattle.hv_residual_model.proofs.LevelLemmas.{reads_sig_coeff, reads_levels_of_flags}
 

@@ -1,8 +1,8 @@
 -- Worked values of the bins of levels (7.3.8.11), of their contexts (9.3.4.2.3 to 9.3.4.2.7) and of
 -- scans (6.5.3 to 6.5.5), by hand.
 use Rattle.std.proofs.Common.{◌≡◌, ℕ, Bool, true, false, List, [], ◌∷◌, ◌++◌, refl, replicate, pos, negsuc, map}
-use Rattle.hv_types.specs.declared.bins.CtxTable.{CtxTable}
-use Rattle.hv_types.specs.declared.bins.CtxTable.TheVariants.{LastX, LastY, CodedSub, Sig, Greater1, Greater2}
+use Rattle.hv_tables.specs.declared.bins.CtxTable.{CtxTable}
+use Rattle.hv_tables.specs.declared.bins.CtxTable.TheVariants.{LastX, LastY, CodedSub, Sig, Greater1, Greater2}
 use Rattle.hv_plan.specs.declared.prediction.Pred.TheVariants.{Intra}
 use Rattle.hv_plan.specs.declared.prediction.Scan.{Scan}
 use Rattle.hv_plan.specs.declared.prediction.Scan.TheVariants.{Diagonal, Horizontal, Vertical}

@@ -2,8 +2,9 @@
 use Rattle.std.specs.Prelude.{ℕ, zero, suc, ◌+◌, ◌-◌, ◌*◌, ◌/◌, ◌%◌, ◌^◌, Bool, true, false, cond, not, nat_lt, ◌&&◌, ◌||◌, List, [], ◌∷◌, ◌++◌, length, map, slice_index_or, ℤ, pos, negsuc}
 use Rattle.std.specs.Int.{is_negative}
 use Rattle.std.specs.Int.RustNames.{unsigned_abs}
-use Rattle.hv_types.specs.declared.bins.CtxTable.{CtxTable}
-use Rattle.hv_types.specs.declared.bins.CtxTable.TheVariants.{LastX, LastY}
+use Rattle.hv_tables.specs.declared.bins.CtxTable.{CtxTable}
+use Rattle.hv_tables.specs.declared.bins.CtxTable.TheVariants.{LastX, LastY}
+use Rattle.hv_plan.specs.Levels.{is_significant}
 use Rattle.hv_residual_model.specs.UnitBins.{UnitQuestion, InBypass, UnitBin, unit_bin}
 use Rattle.hv_residual_model.specs.Binarization.{fixed_length_bins, truncated_unary_bins, remaining_bins}
 use Rattle.hv_residual_model.specs.ScanOrder.{block_position}
@@ -25,18 +26,6 @@ downwards (suc n) f = f n ∷ downwards n f
 -- the lowest n levels of sub-block s, from the highest position down
 unfoldable pub levels_below : TransformBlock → List ℤ → ℕ → ℕ → List ℤ
 levels_below b levels s n = downwards n (λ i. level_at b levels (16 * s + i))
-
-abbrev pub is_zero : ℤ → Bool
-is_zero (pos zero) = true
-is_zero (pos (suc n)) = false
-is_zero (negsuc n) = false
-
-abbrev pub is_significant : ℤ → Bool
-is_significant level = not (is_zero level)
-
-abbrev pub any_significant : List ℤ → Bool
-any_significant [] = false
-any_significant (level ∷ levels) = is_significant level || any_significant levels
 
 -- the number of the last level that isn't 0, of those below n
 abbrev pub last_below : TransformBlock → List ℤ → ℕ → ℕ

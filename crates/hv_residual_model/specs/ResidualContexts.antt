@@ -1,8 +1,8 @@
 -- Which context variable each bin of residual_coding is decoded with: ctxInc of 9.3.4.2.3 to
 -- 9.3.4.2.7.
 use Rattle.std.specs.Prelude.{ℕ, zero, suc, ◌+◌, ◌-◌, ◌*◌, ◌/◌, ◌^◌, Bool, true, false, cond, not, nat_eq, nat_lt, ◌||◌, min, List, [], ◌∷◌, slice_index_or}
-use Rattle.hv_types.specs.declared.bins.CtxTable.{CtxTable}
-use Rattle.hv_types.specs.declared.bins.CtxTable.TheVariants.{CodedSub, Sig, Greater1, Greater2}
+use Rattle.hv_tables.specs.declared.bins.CtxTable.{CtxTable}
+use Rattle.hv_tables.specs.declared.bins.CtxTable.TheVariants.{CodedSub, Sig, Greater1, Greater2}
 use Rattle.hv_plan.specs.declared.prediction.Scan.{Scan}
 use Rattle.hv_plan.specs.declared.prediction.Scan.TheVariants.{Diagonal, Horizontal, Vertical}
 use Rattle.hv_residual_model.specs.UnitBins.{UnitQuestion, context}

@@ -2,13 +2,14 @@
 -- bits.
 use Rattle.std.specs.Prelude.{◌≡◌, ◌≤◌, ◌^◌, ◌*◌, true, List, [], ◌∷◌, length, map, ℤ}
 use Rattle.std.specs.List.{list_all}
-use Rattle.hv_types.specs.declared.bins.SliceKind.{SliceKind}
+use Rattle.hv_tables.specs.declared.bins.SliceKind.{SliceKind}
 use Rattle.hv_tables.specs.ContextTables.{IsValid}
 use Rattle.hv_stream_model.specs.Scripts.{Reads}
 use Rattle.hv_residual_model.specs.UnitBins.{UnitQuestion, ByContext, InBypass, UnitBin, UnitScript, slice_bin, in_slice}
 use Rattle.hv_residual_model.specs.ResidualContexts.{TransformBlock}
-use Rattle.hv_residual_model.specs.ResidualSyntax.{has_16_bits, residual_coding}
-use Rattle.hv_residual_model.specs.ResidualBins.{any_significant, residual_bins}
+use Rattle.hv_residual_model.specs.ResidualSyntax.{residual_coding}
+use Rattle.hv_plan.specs.Levels.{has_16_bits, any_significant}
+use Rattle.hv_residual_model.specs.ResidualBins.{residual_bins}
 
 -- sides 4 to 32
 abbrev pub HasSide : TransformBlock → Type 0

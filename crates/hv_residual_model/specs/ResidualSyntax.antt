@@ -2,12 +2,13 @@
 -- of this profile that change it are 0: transform_skip_enabled_flag and
 -- sign_data_hiding_enabled_flag.
 use Rattle.std.specs.Prelude.{ℕ, zero, suc, ◌+◌, ◌-◌, ◌*◌, ◌/◌, ◌%◌, ◌^◌, Bool, true, false, cond, not, nat_eq, nat_lt, ◌&&◌, min, List, [], ◌∷◌, ◌++◌, length, replicate, slice_index_or, ℤ, pos, negsuc, neg_ℤ}
-use Rattle.hv_types.specs.declared.bins.CtxTable.{CtxTable}
-use Rattle.hv_types.specs.declared.bins.CtxTable.TheVariants.{LastX, LastY}
+use Rattle.hv_tables.specs.declared.bins.CtxTable.{CtxTable}
+use Rattle.hv_tables.specs.declared.bins.CtxTable.TheVariants.{LastX, LastY}
 use Rattle.hv_plan.specs.declared.prediction.Scan.{Scan}
 use Rattle.hv_plan.specs.declared.prediction.Scan.TheVariants.{Diagonal, Horizontal, Vertical}
 use Rattle.hv_lemmas.specs.Lists.{tabulate}
 use Rattle.hv_stream_model.specs.Scripts.{Done, Ask, ask, only_if, ◌>>=◌}
+use Rattle.hv_plan.specs.Levels.{has_16_bits}
 use Rattle.hv_residual_model.specs.UnitBins.{UnitQuestion, InBypass, UnitScript}
 use Rattle.hv_residual_model.specs.Binarization.{fixed_length, truncated_unary, coeff_abs_level_remaining}
 use Rattle.hv_residual_model.specs.ScanOrder.{Position, at, position_at, block_number}
@@ -155,11 +156,6 @@ next_cRiceParam cRiceParam level =
 abbrev pub with_sign : Bool → ℕ → ℤ
 with_sign true level = neg_ℤ (pos level)
 with_sign false level = pos level
-
--- a level has 16 bits: CoeffMinY to CoeffMaxY (7.4.9.11)
-abbrev pub has_16_bits : ℤ → Bool
-has_16_bits (pos n) = nat_lt n 32768
-has_16_bits (negsuc n) = nat_lt n 32768
 
 -- the levels that aren't 0, with their signs
 abbrev pub significant_levels : List Base → List Bool → ℕ → UnitScript (List ℤ)

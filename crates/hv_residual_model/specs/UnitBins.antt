@@ -1,9 +1,9 @@
 -- The bins of coding tree units: all bins of a slice but those before terminate.
 use Rattle.std.specs.Prelude.{Bool, ℕ, List, map}
-use Rattle.hv_types.specs.declared.bins.Ctx.{Ctx}
-use Rattle.hv_types.specs.declared.bins.CtxTable.{CtxTable}
-use Rattle.hv_types.specs.declared.bins.SliceKind.{SliceKind}
-use Rattle.hv_types.specs.Bins.{Question, Context, Bypass, Answered, Bin, Puts}
+use Rattle.hv_tables.specs.declared.bins.Ctx.{Ctx}
+use Rattle.hv_tables.specs.declared.bins.CtxTable.{CtxTable}
+use Rattle.hv_tables.specs.declared.bins.SliceKind.{SliceKind}
+use Rattle.hv_tables.specs.Bins.{Question, Context, Bypass, Answered, Bin, Puts}
 use Rattle.hv_stream_model.specs.Scripts.{Script, Done, Ask, Fail, only_if}
 use Rattle.hv_lemmas.specs.Booleans.{same}
 

@@ -10,7 +10,7 @@ use hv_params::{write_pps, write_sps, write_vps};
 use hv_plain::{Random, escape};
 use hv_plain_units::{Slice, generate_picture, write_slice};
 use hv_slice::write_slice_header;
-use hv_types::SliceKind;
+use hv_tables::SliceKind;
 use std::alloc::Global;
 
 /// nal_unit_type of the slice of an IDR picture without leading pictures (7.4.2.2).

@@ -14,7 +14,7 @@ use anyhow::bail;
 use hv_bits::strip_nal;
 use hv_plain::BinReader;
 use hv_plain_units::{CodedBlock, Slice, Source, UnitTally, is_end, read_slice};
-use hv_types::SliceKind;
+use hv_tables::SliceKind;
 use md5::{Digest, Md5};
 use std::alloc::Global;
 

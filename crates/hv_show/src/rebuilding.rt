@@ -1,8 +1,8 @@
 //! The blocks of an I picture before the in-loop filters.
 
 ghost use Rattle.std.specs.Prelude.{◌≡◌, ◌+◌, ◌%◌, ◌≤◌, ◌<◌, IfSome, IsTrue};
-ghost use Rattle.hv_unit_model.specs.Trees.{side};
-ghost use Rattle.hv_unit_model.specs.Sites.{squares, x0, y0};
+ghost use Rattle.hv_tree_model.specs.Trees.{side};
+ghost use Rattle.hv_tree_model.specs.Sites.{squares, x0, y0};
 
 use crate::memory::enough;
 use crate::tally::Leaves;

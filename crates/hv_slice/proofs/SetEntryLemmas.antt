@@ -6,7 +6,7 @@ use Rattle.std.specs.Int.RustNames.{unsigned_abs}
 use Rattle.std.proofs.lemmas.List.{take_at, drop_at, take-take, drop-take, take_more, take_more_set, length-set, length-map}
 use Rattle.std.proofs.lemmas.Option.{get_or_from_slice_get}
 use Rattle.hv_types.specs.Configuration.{most_levels}
-use Rattle.hv_types.specs.declared.bins.SliceKind.TheVariants.{P}
+use Rattle.hv_tables.specs.declared.bins.SliceKind.TheVariants.{P}
 use Rattle.hv_group_model.specs.Structure.{Kept, ReferenceSet, reference_set, set_size, coded_of, qp_at}
 use Rattle.hv_stream_model.specs.Headers.{SliceHeader, slice, slice_header_of}
 use Rattle.hv_stream_model.specs.HeaderLaws.{IsAllowedSlice, SlicesOfGroupsAreAllowed, header_of}

@@ -1,6 +1,6 @@
 -- The header of a P picture (7.3.6.1) from its parts, for `put_p_slice`.
 use Rattle.std.proofs.Common.{◌≡◌, ℕ, List, [], ◌∷◌, ◌++◌, ap, ap₂, ◌∙◌, append_assoc}
-use Rattle.hv_types.specs.declared.bins.SliceKind.TheVariants.{P}
+use Rattle.hv_tables.specs.declared.bins.SliceKind.TheVariants.{P}
 use Rattle.hv_stream_model.specs.Fields.{Field, u, ue, se}
 use Rattle.hv_stream_model.specs.Headers.{slice, set_fields, slice_start, sao_flags, active_fields, type_code, used_count, qp_delta}
 use Rattle.hv_decision.specs.declared.row.SetEntry.{SetEntry}

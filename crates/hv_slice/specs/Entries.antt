@@ -1,7 +1,7 @@
 -- Entries of a reference set, as the definitions see them.
 use Rattle.std.specs.Prelude.{ℕ, List, map}
 use Rattle.std.specs.Int.RustNames.{unsigned_abs}
-use Rattle.hv_types.specs.declared.bins.SliceKind.TheVariants.{P}
+use Rattle.hv_tables.specs.declared.bins.SliceKind.TheVariants.{P}
 use Rattle.hv_group_model.specs.Structure.{Kept, ReferenceSet}
 use Rattle.hv_stream_model.specs.Headers.{SliceHeader}
 use Rattle.hv_decision.specs.declared.row.SetEntry.{SetEntry}

@@ -3,7 +3,7 @@
 ghost use Rattle.std.specs.Prelude.{◌≡◌, ◌≤◌, ◌<◌, ◌%◌, true, false, map, ◌∷◌, [], ◌++◌, length};
 ghost use Rattle.std.specs.List.{list_all};
 ghost use Rattle.hv_types.specs.Configuration.{most_levels};
-ghost use Rattle.hv_types.specs.declared.bins.SliceKind.TheVariants.{P};
+ghost use Rattle.hv_tables.specs.declared.bins.SliceKind.TheVariants.{P};
 ghost use Rattle.hv_bits.specs.Writing.{Appends};
 ghost use Rattle.hv_bits.specs.FieldTables.{field_of, is_codable};
 ghost use Rattle.hv_stream_model.specs.Fields.{bits_of_fields, u, ue, se, aligned};

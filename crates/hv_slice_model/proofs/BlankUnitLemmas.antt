@@ -1,10 +1,10 @@
 -- Units in which nothing is chosen may be coded in blocks.
 use Rattle.std.proofs.Common.{◌≡◌, ℕ, zero, suc, ◌+◌, ◌*◌, Bool, true, false, cond, [], ◌∷◌, refl, arith}
-use Rattle.hv_types.specs.declared.bins.SliceKind.{SliceKind}
-use Rattle.hv_unit_model.specs.Trees.{Tree, Leaf, Split, Outside, Intra, no_units, greatest_size}
-use Rattle.hv_unit_model.specs.Sites.{Site, squares, is_outside, crosses}
-use Rattle.hv_unit_model.specs.MostProbableModes.{dc}
-use Rattle.hv_unit_model.specs.Validity.{AreOffsets, IsValidNode}
+use Rattle.hv_tables.specs.declared.bins.SliceKind.{SliceKind}
+use Rattle.hv_tree_model.specs.Trees.{Tree, Leaf, Split, Outside, Intra, no_units, greatest_size}
+use Rattle.hv_tree_model.specs.Sites.{Site, squares, is_outside, crosses}
+use Rattle.hv_tree_model.specs.MostProbableModes.{dc}
+use Rattle.hv_tree_model.specs.Validity.{AreOffsets, IsValidNode}
 use Rattle.hv_unit_model.proofs.TransformLemmas.{no_units_valid}
 use Rattle.hv_slice_model.specs.BlankUnits.{no_offsets, blank_node, blank_tree}
 use Rattle.hv_slice_model.specs.SliceLaws.{BlankUnitsAreValid}

@@ -1,14 +1,14 @@
 -- Slice data (7.3.8.1) asks only for contexts with a variable (9.3.4.2).
 use Rattle.std.proofs.Common.{ℕ, List, [], ◌∷◌, ◌++◌, map}
-use Rattle.hv_types.specs.declared.bins.SliceKind.{SliceKind}
-use Rattle.hv_types.specs.Bins.{Bin}
+use Rattle.hv_tables.specs.declared.bins.SliceKind.{SliceKind}
+use Rattle.hv_tables.specs.Bins.{Bin}
 use Rattle.hv_entropy_model.specs.CodeWord.{IsAskable, AllAskable}
 use Rattle.hv_residual_model.specs.UnitBins.{UnitQuestion, ByContext, InBypass, UnitBin, slice_question, slice_bin}
 use Rattle.hv_residual_model.specs.ResidualLaws.{IsAskedIn, AreAskedIn}
-use Rattle.hv_unit_model.specs.Trees.{CodingTreeUnit, greatest_size}
-use Rattle.hv_unit_model.specs.Sites.{Site}
-use Rattle.hv_unit_model.specs.EarlierUnits.{Square, Surroundings, after, in_picture}
-use Rattle.hv_unit_model.specs.Validity.{IsValidTree, AreValid}
+use Rattle.hv_tree_model.specs.Trees.{CodingTreeUnit, greatest_size}
+use Rattle.hv_tree_model.specs.Sites.{Site}
+use Rattle.hv_tree_model.specs.EarlierUnits.{Square, Surroundings, after, in_picture}
+use Rattle.hv_tree_model.specs.Validity.{IsValidTree, AreValid}
 use Rattle.hv_unit_model.specs.Bins.{sao_bins, bins_of_node, bins, slice_bins_from}
 use Rattle.hv_unit_model.proofs.ContextLemmas.{offsets_ask_there, nodes_ask_there}
 use Rattle.hv_slice_model.specs.SliceLaws.{SliceDataContextsAreValid}

@@ -2,14 +2,14 @@
 use Rattle.std.proofs.Common.{◌≡◌, ◌≢◌, ℕ, false, List, [], ◌∷◌, ◌++◌, refl, sym, ap, subst, append_assoc}
 use Rattle.std.specs.Prelude.{Bool, map}
 use Rattle.std.proofs.lemmas.Bool.{false≢true}
-use Rattle.hv_types.specs.declared.bins.SliceKind.{SliceKind}
-use Rattle.hv_types.specs.Bins.{Bin, terminate_bin}
+use Rattle.hv_tables.specs.declared.bins.SliceKind.{SliceKind}
+use Rattle.hv_tables.specs.Bins.{Bin, terminate_bin}
 use Rattle.hv_entropy_model.specs.CodeWord.{is_last, IsEnded}
 use Rattle.hv_residual_model.specs.UnitBins.{UnitQuestion, ByContext, InBypass, UnitBin, slice_question, slice_bin}
-use Rattle.hv_unit_model.specs.Trees.{CodingTreeUnit, greatest_size}
-use Rattle.hv_unit_model.specs.Sites.{Site}
-use Rattle.hv_unit_model.specs.EarlierUnits.{Square, Surroundings, after, in_picture}
-use Rattle.hv_unit_model.specs.Validity.{AreValid, is_empty}
+use Rattle.hv_tree_model.specs.Trees.{CodingTreeUnit, greatest_size}
+use Rattle.hv_tree_model.specs.Sites.{Site}
+use Rattle.hv_tree_model.specs.EarlierUnits.{Square, Surroundings, after, in_picture}
+use Rattle.hv_tree_model.specs.Validity.{AreValid, is_empty}
 use Rattle.hv_unit_model.specs.Bins.{sao_bins, bins_of_node, bins, slice_bins_from}
 use Rattle.hv_slice_model.specs.SliceLaws.{SliceDataEnds}
 

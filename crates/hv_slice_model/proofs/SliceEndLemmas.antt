@@ -1,7 +1,7 @@
 -- The payload of a slice ends in a byte other than 0 (7.4.2).
 use Rattle.std.proofs.Common.{◌≡◌, ℕ, ◌+◌, ◌-◌, ◌/◌, ◌%◌, ◌^◌, List, [], ◌∷◌, ◌++◌, length, sym, ap, ◌∙◌, arith, append_assoc, length-append}
-use Rattle.hv_types.specs.declared.bins.SliceKind.{SliceKind}
-use Rattle.hv_types.specs.Bins.{Bin}
+use Rattle.hv_tables.specs.declared.bins.SliceKind.{SliceKind}
+use Rattle.hv_tables.specs.Bins.{Bin}
 use Rattle.hv_stream_model.specs.Bits.{digits, bytes_of}
 use Rattle.hv_stream_model.specs.BitLaws.{missing}
 use Rattle.hv_stream_model.specs.Fields.{bits_of_fields, aligned}

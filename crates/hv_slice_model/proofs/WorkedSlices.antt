@@ -1,18 +1,18 @@
 -- Worked slices of pictures of several sizes, computed by the definitions.
 use Rattle.std.proofs.Common.{◌≡◌, ℕ, Bool, true, false, List, [], ◌∷◌, map, refl}
-use Rattle.hv_types.specs.declared.bins.SliceKind.TheVariants.{I}
-use Rattle.hv_types.specs.declared.bins.CtxTable.{CtxTable}
-use Rattle.hv_types.specs.declared.bins.CtxTable.TheVariants.{Split, PartMode, PrevIntra, ChromaMode, CbfLuma, CbfChroma, SaoMerge, SaoType}
-use Rattle.hv_types.specs.Bins.{Bin, context_bin, bypass_bin, terminate_bin}
+use Rattle.hv_tables.specs.declared.bins.SliceKind.TheVariants.{I}
+use Rattle.hv_tables.specs.declared.bins.CtxTable.{CtxTable}
+use Rattle.hv_tables.specs.declared.bins.CtxTable.TheVariants.{Split, PartMode, PrevIntra, ChromaMode, CbfLuma, CbfChroma, SaoMerge, SaoType}
+use Rattle.hv_tables.specs.Bins.{Bin, context_bin, bypass_bin, terminate_bin}
 use Rattle.hv_stream_model.specs.Bits.{bytes_of, first_bytes}
 use Rattle.hv_stream_model.specs.Fields.{log2_of}
 use Rattle.hv_entropy_model.specs.Contexts.{lps_width, next_variable, first_variables}
 use Rattle.hv_entropy_model.specs.CodeWord.{shift_of, reach, first_interval, word}
 use Rattle.hv_residual_model.specs.Binarization.{truncated_unary_bins}
-use Rattle.hv_unit_model.specs.Trees.{Tree, Leaf, Split as SplitTree, Outside, Intra, no_levels, no_units}
-use Rattle.hv_unit_model.specs.Sites.{Site, site, sites, has_left, has_above, column_of, row_of, address_of, crosses, is_outside}
-use Rattle.hv_unit_model.specs.EarlierUnits.{look_picture}
-use Rattle.hv_unit_model.specs.MostProbableModes.{candModeList}
+use Rattle.hv_tree_model.specs.Trees.{Tree, Leaf, Split as SplitTree, Outside, Intra, no_levels, no_units}
+use Rattle.hv_tree_model.specs.Sites.{Site, site, sites, has_left, has_above, column_of, row_of, address_of, crosses, is_outside}
+use Rattle.hv_tree_model.specs.EarlierUnits.{look_picture}
+use Rattle.hv_tree_model.specs.MostProbableModes.{candModeList}
 use Rattle.hv_unit_model.specs.Bins.{sao_bins, luma_mode_bins, transform_unit_bins, quarters_bins, transform_tree_bins, predicted_bins, bins_of_node, slice_bins}
 use Rattle.hv_slice_model.specs.BlankUnits.{blank_node, blank_tree, blank_units}
 use Rattle.hv_slice_model.specs.Slices.{idr_header, payload_of_slice}

@@ -4,10 +4,10 @@ use Rattle.std.specs.Prelude.{ℕ, zero, suc, ◌+◌, ◌*◌, cond, List, [], 
 use Rattle.hv_plan.specs.declared.offsets.SaoKind.TheVariants.{Off}
 use Rattle.hv_plan.specs.declared.offsets.SaoComponent.{SaoComponent}
 use Rattle.hv_plan.specs.declared.offsets.SaoParam.{SaoParam}
-use Rattle.hv_unit_model.specs.Trees.{Tree, Leaf, Split, Outside, Intra, CodingTreeUnit, greatest_size, no_units}
-use Rattle.hv_unit_model.specs.Sites.{Site, squares, is_outside, crosses}
-use Rattle.hv_unit_model.specs.MostProbableModes.{dc}
-use Rattle.hv_unit_model.specs.Validity.{is_empty}
+use Rattle.hv_tree_model.specs.Trees.{Tree, Leaf, Split, Outside, Intra, CodingTreeUnit, greatest_size, no_units}
+use Rattle.hv_tree_model.specs.Sites.{Site, squares, is_outside, crosses}
+use Rattle.hv_tree_model.specs.MostProbableModes.{dc}
+use Rattle.hv_tree_model.specs.Validity.{is_empty}
 
 -- ---- sample adaptive offsets
 

@@ -1,10 +1,10 @@
 -- Coding tree units that an encoder keeps as plans, a plan and offsets for each block of a picture.
 use Rattle.std.specs.Prelude.{◌≡◌, ℕ, List, [], ◌∷◌, slice_get, Some}
 use Rattle.hv_plan.specs.declared.offsets.SaoParam.{SaoParam}
-use Rattle.hv_unit_model.specs.Trees.{CodingTreeUnit}
-use Rattle.hv_unit_model.specs.Sites.{Site, site}
-use Rattle.hv_unit_model.specs.Validity.{is_empty}
-use Rattle.hv_unit_model.specs.Plans.{Plan, tree_of, NamesItsUnits}
+use Rattle.hv_tree_model.specs.Trees.{CodingTreeUnit}
+use Rattle.hv_tree_model.specs.Sites.{Site, site}
+use Rattle.hv_tree_model.specs.Validity.{is_empty}
+use Rattle.hv_tree_model.specs.Plans.{Plan, tree_of, NamesItsUnits}
 
 -- those of these blocks, as far as there are plans and offsets: the last one ends the slice
 abbrev pub planned_units : List Site → List Plan → List SaoParam → List CodingTreeUnit

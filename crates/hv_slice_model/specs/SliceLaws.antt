@@ -1,13 +1,13 @@
 -- How a slice and its data end, which contexts the data asks for, and that units in which nothing is
 -- chosen may be coded.
 use Rattle.std.specs.Prelude.{◌≢◌, ℕ, List, []}
-use Rattle.hv_types.specs.declared.bins.SliceKind.{SliceKind}
+use Rattle.hv_tables.specs.declared.bins.SliceKind.{SliceKind}
 use Rattle.hv_stream_model.specs.Units.{last_of}
 use Rattle.hv_stream_model.specs.Headers.{SliceHeader}
 use Rattle.hv_entropy_model.specs.CodeWord.{IsEnded, AllAskable}
-use Rattle.hv_unit_model.specs.Trees.{CodingTreeUnit}
-use Rattle.hv_unit_model.specs.Sites.{Site}
-use Rattle.hv_unit_model.specs.Validity.{AreValid}
+use Rattle.hv_tree_model.specs.Trees.{CodingTreeUnit}
+use Rattle.hv_tree_model.specs.Sites.{Site}
+use Rattle.hv_tree_model.specs.Validity.{AreValid}
 use Rattle.hv_unit_model.specs.Bins.{slice_bins}
 use Rattle.hv_slice_model.specs.Slices.{payload_of_slice}
 use Rattle.hv_slice_model.specs.BlankUnits.{blank_units}

@@ -1,7 +1,7 @@
 -- The slice of a picture, IDR picture or not: its header by one record, the pictures that its
 -- reference picture set names (8.3.2), list 0 (8.3.4), and its unit.
 use Rattle.std.specs.Prelude.{ℕ, zero, suc, ◌+◌, ◌-◌, Bool, cond, nat_eq, List, [], ◌++◌, map, filter}
-use Rattle.hv_types.specs.declared.bins.SliceKind.TheVariants.{I}
+use Rattle.hv_tables.specs.declared.bins.SliceKind.TheVariants.{I}
 use Rattle.hv_types.specs.declared.settings.Settings.{Settings}
 use Rattle.hv_types.specs.Configuration.{padded_width, padded_height}
 use Rattle.hv_group_model.specs.Structure.{Kept, ReferenceSet, qp_at}
@@ -11,8 +11,8 @@ use Rattle.hv_stream_model.specs.Fields.{Field, bits_of_fields, aligned}
 use Rattle.hv_stream_model.specs.Headers.{SliceHeader, used_count, idr_slice, slice}
 use Rattle.hv_stream_model.specs.HeaderLaws.{header_of}
 use Rattle.hv_entropy_model.specs.CodeWord.{word}
-use Rattle.hv_unit_model.specs.Trees.{CodingTreeUnit}
-use Rattle.hv_unit_model.specs.Sites.{Site, sites}
+use Rattle.hv_tree_model.specs.Trees.{CodingTreeUnit}
+use Rattle.hv_tree_model.specs.Sites.{Site, sites}
 use Rattle.hv_unit_model.specs.Bins.{slice_bins}
 
 -- ---- headers

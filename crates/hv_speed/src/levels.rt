@@ -1,6 +1,6 @@
 //! The kernels of levels that can be run: levels put into the arithmetic encoder, and counted.
 ghost use Rattle.std.specs.Prelude.{◌≡◌, ◌*◌, ◌^◌, ◌<◌, ◌≤◌, true, vec_len, length};
-ghost use Rattle.hv_residual_model.specs.ResidualBins.{any_significant};
+ghost use Rattle.hv_plan.specs.Levels.{any_significant};
 
 use anyhow::bail;
 use hv_cabac::{BinSink, Encoder, SliceKind};

@@ -1,8 +1,8 @@
 //! The kernels of coding tree units that can be run: blocks put into the arithmetic encoder, and
 //! nodes counted.
 ghost use Rattle.std.specs.Prelude.{◌≡◌, ◌+◌, ◌-◌, ◌<◌, ◌≤◌};
-ghost use Rattle.hv_unit_model.specs.Sites.{address_of, squares};
-ghost use Rattle.hv_unit_model.specs.Plans.{NamesItsUnits};
+ghost use Rattle.hv_tree_model.specs.Sites.{address_of, squares};
+ghost use Rattle.hv_tree_model.specs.Plans.{NamesItsUnits};
 ghost use Rattle.hv_syntax.specs.Neighbours.{lists_of_plan};
 ghost use Rattle.hv_syntax.specs.Squares.{NamesNode};
 

@@ -1,7 +1,7 @@
 -- Scripts one behind another, and what a script reads from an oracle that gives its answers.
 use Rattle.std.proofs.Common.{◌≡◌, Bool, true, List, [], ◌∷◌, ◌++◌, refl}
 use Rattle.std.specs.Prelude.{Option, Some}
-use Rattle.hv_types.specs.Bins.{Answered}
+use Rattle.hv_tables.specs.Bins.{Answered}
 use Rattle.hv_stream_model.specs.Scripts.{Script, Done, Ask, Fail, ask, only_if, ◌>>=◌, run, Reads, nothing, one}
 
 -- a script, and then the one that goes on with its value

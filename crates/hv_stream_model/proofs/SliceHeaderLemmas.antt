@@ -3,8 +3,8 @@
 use Rattle.std.proofs.Common.{◌≡◌, ℕ, ◌+◌, ◌-◌, ◌^◌, ◌<◌, ◌≤◌, Bool, true, false, List, [], ◌∷◌, ◌++◌, length, refl, sym, ap, ◌∙◌, subst, arith, append_assoc, le-leb}
 use Rattle.std.specs.Prelude.{nat_eq, nat_le, ◌&&◌, pos, ◌+ℤ◌, ◌-ℤ◌}
 use Rattle.std.proofs.lemmas.Int.{ints}
-use Rattle.hv_types.specs.declared.bins.SliceKind.{SliceKind}
-use Rattle.hv_types.specs.declared.bins.SliceKind.TheVariants.{I, P}
+use Rattle.hv_tables.specs.declared.bins.SliceKind.{SliceKind}
+use Rattle.hv_tables.specs.declared.bins.SliceKind.TheVariants.{I, P}
 use Rattle.hv_stream_model.specs.Scripts.{Done, only_if, ◌>>=◌, Reads, nothing, one}
 use Rattle.hv_stream_model.specs.Fields.{U, Ue, Field, Codes, AllCodable, u, ue, se, code_num, signed_of, HeaderScript}
 use Rattle.hv_group_model.specs.Structure.{Kept, ReferenceSet, set_size}

@@ -2,8 +2,8 @@
 -- group, an I slice that isn't an IDR picture's, and refusals one beyond each limit, by hand.
 use Rattle.std.proofs.Common.{◌≡◌, refl, ℕ, Bool, true, false, List, [], ◌∷◌}
 use Rattle.std.specs.Prelude.{Some, None}
-use Rattle.hv_types.specs.declared.bins.SliceKind.{SliceKind}
-use Rattle.hv_types.specs.declared.bins.SliceKind.TheVariants.{I, P}
+use Rattle.hv_tables.specs.declared.bins.SliceKind.{SliceKind}
+use Rattle.hv_tables.specs.declared.bins.SliceKind.TheVariants.{I, P}
 use Rattle.hv_group_model.specs.Structure.{Kept, ReferenceSet, reference_set}
 use Rattle.hv_stream_model.specs.Bits.{bytes_of, first_bytes}
 use Rattle.hv_stream_model.specs.Fields.{bits_of_fields, aligned, log2_of, read_header}

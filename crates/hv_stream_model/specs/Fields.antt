@@ -1,6 +1,6 @@
 -- Fields of headers and the descriptors that code them (7.2, 9.2).
 use Rattle.std.specs.Prelude.{ℕ, zero, suc, ◌+◌, ◌-◌, ◌*◌, ◌/◌, ◌%◌, ◌^◌, cond, nat_eq, nat_lt, nat_le, ◌&&◌, List, [], ◌∷◌, ◌++◌, length, take, drop, replicate, Option, Some, None, ℤ, pos, negsuc, neg_ℤ, ◌<◌}
-use Rattle.hv_types.specs.Bins.{Answered}
+use Rattle.hv_tables.specs.Bins.{Answered}
 use Rattle.hv_stream_model.specs.Bits.{digits, number_of}
 use Rattle.hv_stream_model.specs.Scripts.{Script, run}
 

@@ -2,7 +2,7 @@
 -- syntax structure of 7.3 is a script; what answers it are bits, a list of bins, or the arithmetic
 -- decoder.
 use Rattle.std.specs.Prelude.{Bool, true, false, List, [], ◌∷◌, Option, Some, None}
-use Rattle.hv_types.specs.Bins.{Answered}
+use Rattle.hv_tables.specs.Bins.{Answered}
 
 infixl 10 ◌>>=◌
 -- questions of type Q, answers of type V, and a value of type A in the end

@@ -5,9 +5,9 @@ use Rattle.std.proofs.lemmas.Bool.{cases_lt, ltb-true, true≢false, leb-false, 
 use Rattle.std.proofs.lemmas.Bool.Decides.{nat_tests}
 use Rattle.hv_lemmas.proofs.ComparisonLemmas.{lt_below, lt_not_below, other_than_0}
 use Rattle.hv_lemmas.proofs.ComputedLemmas.{all_below, holds_below}
-use Rattle.hv_unit_model.specs.Sites.{Site, ctb_column, ctb_row, address_of, column_of, row_of, is_outside}
-use Rattle.hv_unit_model.specs.EarlierUnits.{Square, Unavailable}
-use Rattle.hv_unit_model.specs.Plans.{Plan, UnitsAround, on_right, on_bottom, is_in_picture, look_around, in_block}
+use Rattle.hv_tree_model.specs.Sites.{Site, ctb_column, ctb_row, address_of, column_of, row_of, is_outside}
+use Rattle.hv_tree_model.specs.EarlierUnits.{Square, Unavailable}
+use Rattle.hv_tree_model.specs.Plans.{Plan, UnitsAround, on_right, on_bottom, is_in_picture, look_around, in_block}
 use Rattle.hv_unit_model.proofs.GeometryLemmas.{place_of_address, address_of_place}
 use Rattle.hv_syntax.specs.declared.block.Block.{Block}
 use Rattle.hv_syntax.specs.Blocks.{plan_of, place_of, seen_left, seen_above, AreBeside, Sees}

@@ -2,12 +2,12 @@
 use Rattle.std.proofs.Common.{◌≡◌, ◌≢◌, ℕ, zero, suc, ◌+◌, ◌-◌, ◌≤◌, Bool, true, false, cond, nat_lt, nat_eq, List, [], ◌∷◌, ◌++◌, length, length-append, refl, sym, ap, ◌∙◌, arith}
 use Rattle.hv_lemmas.proofs.ComparisonLemmas.{lt_below}
 use Rattle.std.proofs.lemmas.Bool.Decides.{nat_tests}
-use Rattle.hv_types.specs.declared.bins.CtxTable.TheVariants.{MvpFlag, RefIdx, CbfChroma, ChromaMode, RootCbf}
+use Rattle.hv_tables.specs.declared.bins.CtxTable.TheVariants.{MvpFlag, RefIdx, CbfChroma, ChromaMode, RootCbf}
 use Rattle.hv_plan.specs.declared.prediction.Mv.{Mv}
 use Rattle.hv_residual_model.specs.UnitBins.{UnitBin, unit_bin}
-use Rattle.hv_residual_model.specs.ResidualBins.{any_significant}
+use Rattle.hv_plan.specs.Levels.{any_significant}
 use Rattle.hv_residual_model.specs.Binarization.{truncated_unary_bins}
-use Rattle.hv_unit_model.specs.Trees.{Motion, Prediction, Intra, Inter, TransformUnit, any_cb, any_cr, any_level, log2TrafoSize}
+use Rattle.hv_tree_model.specs.Trees.{Motion, Prediction, Intra, Inter, TransformUnit, any_cb, any_cr, any_level, log2TrafoSize}
 use Rattle.hv_unit_model.specs.BlockSyntax.{transform_block, has_luma_flag, luma_flag_at}
 use Rattle.hv_unit_model.specs.Bins.{bin, where_coded, luma_mode_bins, greater1_bins, rest_bins, mvd_bins, reference_bins, prediction_unit_bins, luma_flag_bins, block_bins, transform_unit_bins, transform_tree_bins, intra_part_bins}
 use Rattle.hv_syntax.specs.Parts.{quarter_bins, rooted_bins, intra_bins, inter_bins}

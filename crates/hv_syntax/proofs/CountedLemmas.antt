@@ -4,14 +4,14 @@ use Rattle.std.proofs.Common.{◌≡◌, ℕ, ◌+◌, true, false, List, [], le
 use Rattle.std.proofs.lemmas.List.{length-map}
 use Rattle.std.specs.Prelude.{slice_get, Some}
 use Rattle.hv_plan.specs.declared.prediction.Unit.{Unit}
-use Rattle.hv_types.specs.declared.bins.SliceKind.{SliceKind}
-use Rattle.hv_types.specs.declared.bins.SliceKind.TheVariants.{I}
-use Rattle.hv_types.specs.Bins.{Bin}
+use Rattle.hv_tables.specs.declared.bins.SliceKind.{SliceKind}
+use Rattle.hv_tables.specs.declared.bins.SliceKind.TheVariants.{I}
+use Rattle.hv_tables.specs.Bins.{Bin}
 use Rattle.hv_residual_model.specs.UnitBins.{UnitBin, PutsUnit, slice_bin}
-use Rattle.hv_unit_model.specs.Trees.{Prediction, TransformUnit, Tree, Leaf}
-use Rattle.hv_unit_model.specs.Sites.{is_outside}
-use Rattle.hv_unit_model.specs.EarlierUnits.{Square, Surroundings}
-use Rattle.hv_unit_model.specs.Plans.{leaf_of}
+use Rattle.hv_tree_model.specs.Trees.{Prediction, TransformUnit, Tree, Leaf}
+use Rattle.hv_tree_model.specs.Sites.{is_outside}
+use Rattle.hv_tree_model.specs.EarlierUnits.{Square, Surroundings}
+use Rattle.hv_tree_model.specs.Plans.{leaf_of}
 use Rattle.hv_unit_model.specs.Bins.{split_bins, pred_mode_bins, predicted_bins, bins_of_node}
 use Rattle.hv_syntax.specs.declared.block.Block.{Block}
 use Rattle.hv_syntax.specs.Blocks.{plan_of, place_of, node_of, ends}

@@ -1,8 +1,8 @@
 -- Where the levels of coding units stand.
 use Rattle.std.proofs.Common.{◌≡◌, ℕ, zero, suc, ◌+◌, ◌-◌, ◌*◌, ◌^◌, ◌<◌, ◌≤◌, refl, ap, subst, ◌∙◌, pow-suc, arith}
-use Rattle.hv_unit_model.specs.Trees.{log2TrafoSize, transform_units}
-use Rattle.hv_unit_model.specs.Sites.{squares}
-use Rattle.hv_unit_model.specs.Plans.{Plan, transform_units_at}
+use Rattle.hv_tree_model.specs.Trees.{log2TrafoSize, transform_units}
+use Rattle.hv_tree_model.specs.Sites.{squares}
+use Rattle.hv_tree_model.specs.Plans.{Plan, transform_units_at}
 
 double : (l : ℕ) → 3 ≤ l → 2 ^ l ≡ 2 ^ (l - 1) * 2
 double l h =

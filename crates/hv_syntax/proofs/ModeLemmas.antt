@@ -3,9 +3,9 @@ use mir.Val.{bool_byte}
 use Rattle.std.proofs.Common.{add-zero, ◌≡◌, ◌≢◌, ℕ, ◌+◌, ◌-◌, ◌%◌, ◌<◌, ◌≤◌, Bool, true, false, cond, nat_lt, nat_eq, [], ◌∷◌, refl, ◌∙◌, arith}
 use Rattle.std.proofs.lemmas.Bool.Decides.{nat_tests}
 use Rattle.hv_lemmas.proofs.ComparisonLemmas.{lt_below, lt_not_below}
-use Rattle.hv_types.specs.declared.bins.CtxTable.TheVariants.{PrevIntra}
+use Rattle.hv_tables.specs.declared.bins.CtxTable.TheVariants.{PrevIntra}
 use Rattle.hv_residual_model.specs.Binarization.{bypass_at, truncated_unary_bins, fixed_length_bins}
-use Rattle.hv_unit_model.specs.MostProbableModes.{candModeList, third_mode, remaining_of}
+use Rattle.hv_tree_model.specs.MostProbableModes.{candModeList, third_mode, remaining_of}
 use Rattle.hv_unit_model.specs.Bins.{bin, luma_mode_bins}
 use Rattle.hv_lemmas.proofs.BooleanLemmas.{one_of}
 

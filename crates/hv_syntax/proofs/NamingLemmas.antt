@@ -6,15 +6,15 @@ use Rattle.std.proofs.lemmas.List.{get_or-replicate}
 use Rattle.std.proofs.lemmas.Option.{slice_get-get_or}
 use Rattle.hv_block.specs.Plans.{opening_unit}
 use Rattle.hv_plan.specs.declared.prediction.Unit.{Unit}
-use Rattle.hv_unit_model.specs.Trees.{Prediction, TransformUnit, Leaf, Split, Outside, depth_of, log2TrafoSize, transform_units}
-use Rattle.hv_unit_model.specs.Sites.{Site, squares, is_outside}
-use Rattle.hv_unit_model.specs.EarlierUnits.{Square, Unavailable, Coded, squares_of}
-use Rattle.hv_unit_model.specs.Plans.{Plan, prediction_of, coded_square, square_or_none, transform_units_at, tree_at}
+use Rattle.hv_tree_model.specs.Trees.{Prediction, TransformUnit, Leaf, Split, Outside, depth_of, log2TrafoSize, transform_units}
+use Rattle.hv_tree_model.specs.Sites.{Site, squares, is_outside}
+use Rattle.hv_tree_model.specs.EarlierUnits.{Square, Unavailable, Coded, squares_of}
+use Rattle.hv_tree_model.specs.Plans.{Plan, prediction_of, coded_square, square_or_none, transform_units_at, tree_at}
 use Rattle.hv_syntax.specs.Blocks.{ends}
 use Rattle.hv_syntax.specs.Squares.{own_square, NamesNode}
 use Rattle.hv_syntax.proofs.NodeLemmas.{outside_tree, leaf_tree, split_tree, size_of_split, four_at}
 use Rattle.hv_unit_model.proofs.AroundLemmas.{length-tree_at}
-use Rattle.hv_unit_model.proofs.NodeLemmas.{squares_above_0}
+use Rattle.hv_tree_model.proofs.NodeLemmas.{squares_above_0}
 
 -- ---- a row of squares by the first and the others
 pub each_from : (P : ℕ → Type 0) (from count : ℕ) → P from →

@@ -5,15 +5,15 @@ use Rattle.std.proofs.Common.{inl, inr}
 use Rattle.std.proofs.lemmas.Bool.{cases_lt, true≢false}
 use Rattle.std.proofs.lemmas.List.{get_or_append_left, get_or-append_right}
 use Rattle.hv_plan.specs.declared.prediction.Unit.{Unit}
-use Rattle.hv_unit_model.specs.Trees.{Tree, Split, Outside}
-use Rattle.hv_unit_model.specs.Sites.{Site, squares, is_outside}
-use Rattle.hv_unit_model.specs.EarlierUnits.{Square, Unavailable, squares_of, after}
-use Rattle.hv_unit_model.specs.Plans.{Plan, leaf_of, tree_at}
+use Rattle.hv_tree_model.specs.Trees.{Tree, Split, Outside}
+use Rattle.hv_tree_model.specs.Sites.{Site, squares, is_outside}
+use Rattle.hv_tree_model.specs.EarlierUnits.{Square, Unavailable, squares_of, after}
+use Rattle.hv_tree_model.specs.Plans.{Plan, leaf_of, tree_at}
 use Rattle.hv_syntax.specs.declared.block.Block.{Block}
 use Rattle.hv_syntax.specs.Blocks.{plan_of, place_of, node_of, ends}
 use Rattle.hv_syntax.specs.Squares.{own_square, Shows, NamesNode}
 use Rattle.hv_unit_model.proofs.AroundLemmas.{length-tree_at}
-use Rattle.hv_unit_model.proofs.NodeLemmas.{squares_above_0}
+use Rattle.hv_tree_model.proofs.NodeLemmas.{squares_above_0}
 
 -- ---- the tree of a node
 pub outside_tree : (site : Site) (p : Plan) (size address : ℕ) → is_outside site address ≡ true →

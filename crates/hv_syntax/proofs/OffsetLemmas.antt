@@ -5,11 +5,12 @@ use mir.Syntax.{w8}
 use mir.Val.{to_z, of_z, SFits}
 use Rattle.std.specs.Int.RustNames.{unsigned_abs}
 use Rattle.hv_plan.specs.declared.offsets.SaoParam.{SaoParam}
-use Rattle.hv_types.specs.declared.bins.CtxTable.TheVariants.{SaoMerge}
+use Rattle.hv_tables.specs.declared.bins.CtxTable.TheVariants.{SaoMerge}
 use Rattle.hv_residual_model.specs.UnitBins.{UnitQuestion, UnitBin, unit_bin, PutsUnit}
 use Rattle.hv_residual_model.specs.Binarization.{bypass_at, truncated_unary_bins}
-use Rattle.hv_residual_model.specs.ResidualBins.{is_significant, signs, sign_bins}
-use Rattle.hv_unit_model.specs.Sites.{Site, ctb_column, ctb_row}
+use Rattle.hv_residual_model.specs.ResidualBins.{signs, sign_bins}
+use Rattle.hv_plan.specs.Levels.{is_significant}
+use Rattle.hv_tree_model.specs.Sites.{Site, ctb_column, ctb_row}
 use Rattle.hv_unit_model.specs.Bins.{bin, where_coded, offset_abs_bins, offsets_abs_bins, sao_type_bins, component_bins, cr_bins, sao_bins}
 use Rattle.hv_residual.proofs.PuttingLemmas.{Stands, puts_same}
 use Rattle.hv_syntax.specs.Parts.{offset_sign_bins}

@@ -6,13 +6,13 @@ use Rattle.std.proofs.lemmas.Int.{to_z-of_z}
 use mir.Syntax.{Width}
 use mir.Val.{to_z, of_z, SFits}
 use Rattle.hv_plan.specs.declared.prediction.Mv.{Mv}
-use Rattle.hv_types.specs.declared.bins.CtxTable.TheVariants.{Merge, MvpFlag, CbfChroma, PartMode, ChromaMode, RootCbf}
+use Rattle.hv_tables.specs.declared.bins.CtxTable.TheVariants.{Merge, MvpFlag, CbfChroma, PartMode, ChromaMode, RootCbf}
 use Rattle.hv_residual_model.specs.UnitBins.{UnitBin, PutsUnit}
 use Rattle.hv_residual.proofs.PuttingLemmas.{Stands, puts_same}
-use Rattle.hv_unit_model.specs.Trees.{Motion, Prediction, Intra, Inter, TransformUnit, any_cb, any_cr, any_level, log2TrafoSize}
+use Rattle.hv_tree_model.specs.Trees.{Motion, Prediction, Intra, Inter, TransformUnit, any_cb, any_cr, any_level, log2TrafoSize}
 use Rattle.hv_unit_model.specs.BlockSyntax.{transform_block}
 use Rattle.hv_unit_model.specs.Bins.{bin, where_coded, greater0_bin, greater1_bins, rest_bins, mvd_bins, reference_bins, prediction_unit_bins, luma_flag_bins, block_bins, transform_unit_bins, quarters_bins, transform_tree_bins, luma_mode_bins, intra_part_bins}
-use Rattle.hv_residual_model.specs.ResidualBins.{any_significant}
+use Rattle.hv_plan.specs.Levels.{any_significant}
 use Rattle.hv_syntax.specs.Parts.{quarter_bins, rooted_bins, intra_bins, inter_bins}
 use Rattle.hv_syntax.proofs.ChainLemmas.{puts_3, puts_4, puts_6}
 

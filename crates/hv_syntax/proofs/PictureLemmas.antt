@@ -12,8 +12,8 @@ use Rattle.hv_block.specs.BlockEdges.{edges_of}
 use Rattle.hv_block.specs.Around.{edges_at, neighbours_of}
 use Rattle.hv_block.proofs.EdgeLemmas.{right_unit, bottom_unit}
 use Rattle.hv_block.proofs.AroundLemmas.{left_is_before, above_is_before, above_of_left, above_of_right}
-use Rattle.hv_unit_model.specs.Sites.{Site, blocks_over, address_of}
-use Rattle.hv_unit_model.specs.Plans.{Plan, IsPlan}
+use Rattle.hv_tree_model.specs.Sites.{Site, blocks_over, address_of}
+use Rattle.hv_tree_model.specs.Plans.{Plan, IsPlan}
 use Rattle.hv_unit_model.specs.PlanLaws.{AreEdges, AreSeen, LieAround, unit_of_plan}
 use Rattle.hv_syntax.specs.Neighbours.{lists_of_plan, unit_edges, around_of}
 

@@ -2,13 +2,13 @@
 use Rattle.std.proofs.Common.{◌≡◌, ℕ, zero, suc, ◌+◌, ◌-◌, ◌*◌, true, false, List, [], ◌++◌, refl, ap, sym, ◌∙◌, subst, arith}
 use Rattle.std.specs.Prelude.{slice_get, Some}
 use Rattle.hv_plan.specs.declared.prediction.Unit.{Unit}
-use Rattle.hv_types.specs.declared.bins.SliceKind.{SliceKind}
+use Rattle.hv_tables.specs.declared.bins.SliceKind.{SliceKind}
 use Rattle.hv_residual_model.specs.UnitBins.{UnitBin, PutsUnit}
 use Rattle.hv_residual.proofs.PuttingLemmas.{Stands, puts_none}
-use Rattle.hv_unit_model.specs.Trees.{Prediction, TransformUnit, Tree, Leaf, Split, Outside}
-use Rattle.hv_unit_model.specs.Sites.{squares, is_outside}
-use Rattle.hv_unit_model.specs.EarlierUnits.{Square, Surroundings, after}
-use Rattle.hv_unit_model.specs.Plans.{leaf_of}
+use Rattle.hv_tree_model.specs.Trees.{Prediction, TransformUnit, Tree, Leaf, Split, Outside}
+use Rattle.hv_tree_model.specs.Sites.{squares, is_outside}
+use Rattle.hv_tree_model.specs.EarlierUnits.{Square, Surroundings, after}
+use Rattle.hv_tree_model.specs.Plans.{leaf_of}
 use Rattle.hv_unit_model.specs.Bins.{split_bins, pred_mode_bins, predicted_bins, bins_of_node}
 use Rattle.hv_syntax.specs.declared.block.Block.{Block}
 use Rattle.hv_syntax.specs.Blocks.{plan_of, place_of, node_of, Sees, Reached, ends}

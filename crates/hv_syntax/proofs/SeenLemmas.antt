@@ -4,11 +4,11 @@ use Rattle.std.specs.Prelude.{slice_get, Some}
 use Rattle.std.proofs.lemmas.Bool.Decides.{nat_tests}
 use Rattle.hv_lemmas.proofs.ComparisonLemmas.{lt_below, lt_not_below}
 use Rattle.hv_plan.specs.declared.prediction.Unit.{Unit}
-use Rattle.hv_unit_model.specs.Trees.{Motion, Intra, Inter, TransformUnit, depth_of}
-use Rattle.hv_unit_model.specs.Sites.{address_of, column_of, row_of}
-use Rattle.hv_unit_model.specs.EarlierUnits.{Square, Unavailable, Surroundings, lies_deeper, split_ctxInc}
-use Rattle.hv_unit_model.specs.MostProbableModes.{candModeList, candidates, candIntraPredMode, dc}
-use Rattle.hv_unit_model.specs.Plans.{coded_square}
+use Rattle.hv_tree_model.specs.Trees.{Motion, Intra, Inter, TransformUnit, depth_of}
+use Rattle.hv_tree_model.specs.Sites.{address_of, column_of, row_of}
+use Rattle.hv_tree_model.specs.EarlierUnits.{Square, Unavailable, Surroundings, lies_deeper, split_ctxInc}
+use Rattle.hv_tree_model.specs.MostProbableModes.{candModeList, candidates, candIntraPredMode, dc}
+use Rattle.hv_tree_model.specs.Plans.{coded_square}
 use Rattle.hv_unit_model.specs.Bins.{predicted_bins}
 use Rattle.hv_syntax.specs.Parts.{intra_bins, inter_bins}
 use Rattle.hv_syntax.specs.declared.block.Block.{Block}

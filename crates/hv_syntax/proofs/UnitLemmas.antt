@@ -1,13 +1,13 @@
 -- What is put of a coding tree unit (7.3.8.2).
 use Rattle.std.proofs.Common.{◌≡◌, ℕ, ◌<◌, Bool, false, cond, nat_eq, List, [], ◌∷◌, ◌++◌, length, map, refl, ◌∙◌, subst, append_assoc, arith}
-use Rattle.hv_types.specs.Bins.{Bin, Puts, terminate_bin}
+use Rattle.hv_tables.specs.Bins.{Bin, Puts, terminate_bin}
 use Rattle.hv_residual_model.specs.UnitBins.{PutsUnit, slice_bin}
 use Rattle.hv_residual.proofs.PuttingLemmas.{Stands}
-use Rattle.hv_unit_model.specs.Trees.{Tree, CodingTreeUnit, greatest_size}
-use Rattle.hv_unit_model.specs.Sites.{Site, row_of, is_outside}
-use Rattle.hv_unit_model.specs.EarlierUnits.{Square, Surroundings}
-use Rattle.hv_unit_model.specs.MostProbableModes.{candModeList, candIntraPredMode, candidates, dc}
-use Rattle.hv_unit_model.specs.Plans.{Plan, UnitsAround, tree_at, tree_of, in_block}
+use Rattle.hv_tree_model.specs.Trees.{Tree, CodingTreeUnit, greatest_size}
+use Rattle.hv_tree_model.specs.Sites.{Site, row_of, is_outside}
+use Rattle.hv_tree_model.specs.EarlierUnits.{Square, Surroundings}
+use Rattle.hv_tree_model.specs.MostProbableModes.{candModeList, candIntraPredMode, candidates, dc}
+use Rattle.hv_tree_model.specs.Plans.{Plan, UnitsAround, tree_at, tree_of, in_block}
 use Rattle.hv_unit_model.specs.Bins.{sao_bins, bins_of_node, bins}
 use Rattle.hv_plan.specs.declared.offsets.SaoParam.{SaoParam}
 use Rattle.hv_syntax.specs.declared.block.Block.{Block}

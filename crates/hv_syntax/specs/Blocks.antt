@@ -1,10 +1,10 @@
 -- A block of the code as the definitions have it, and what is seen from it.
 use Rattle.std.specs.Prelude.{◌≡◌, ℕ, zero, suc, nat_le, true, ◌-◌, ◌<◌, Bool, false, cond, nat_eq, nat_lt, List, slice_get, Option, Some, None}
 use Rattle.hv_plan.specs.declared.prediction.Unit.{Unit}
-use Rattle.hv_unit_model.specs.Trees.{Tree, depth_of}
-use Rattle.hv_unit_model.specs.Sites.{Site, address_of, column_of, row_of, is_outside}
-use Rattle.hv_unit_model.specs.EarlierUnits.{Square, Unavailable, Surroundings, left_of, above_of}
-use Rattle.hv_unit_model.specs.Plans.{Plan, UnitsAround, on_right, on_bottom, square_or_none, tree_at}
+use Rattle.hv_tree_model.specs.Trees.{Tree, depth_of}
+use Rattle.hv_tree_model.specs.Sites.{Site, address_of, column_of, row_of, is_outside}
+use Rattle.hv_tree_model.specs.EarlierUnits.{Square, Unavailable, Surroundings, left_of, above_of}
+use Rattle.hv_tree_model.specs.Plans.{Plan, UnitsAround, on_right, on_bottom, square_or_none, tree_at}
 use Rattle.hv_syntax.specs.declared.block.Beside.{Beside}
 use Rattle.hv_syntax.specs.declared.block.Plan.{Plan as CodePlan}
 use Rattle.hv_syntax.specs.declared.block.Block.{Block}

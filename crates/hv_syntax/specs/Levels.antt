@@ -1,6 +1,6 @@
 -- The levels of coding units as the definitions have them.
 use Rattle.std.specs.Prelude.{ℕ, ◌-◌, List, [], ◌∷◌}
-use Rattle.hv_unit_model.specs.Trees.{TransformUnit, greatest_size}
+use Rattle.hv_tree_model.specs.Trees.{TransformUnit, greatest_size}
 use Rattle.hv_syntax.specs.declared.levels.TransformUnit.{TransformUnit as CodeUnit}
 use Rattle.hv_syntax.specs.declared.levels.UnitLevels.{UnitLevels}
 use Rattle.hv_syntax.specs.declared.levels.UnitLevels.TheVariants.{One, Four}

@@ -3,7 +3,7 @@ use Rattle.std.specs.Prelude.{Option, Some, None}
 use Rattle.hv_block.specs.declared.edges.Edges.{Edges}
 use Rattle.hv_block.specs.declared.edges.Neighbours.{Neighbours}
 use Rattle.hv_block.specs.Plans.{CtbPlan}
-use Rattle.hv_unit_model.specs.Plans.{Plan, UnitEdges, UnitsAround}
+use Rattle.hv_tree_model.specs.Plans.{Plan, UnitEdges, UnitsAround}
 
 abbrev pub lists_of_plan : CtbPlan → Plan
 lists_of_plan p = record { units = p.units; luma = p.luma; cb = p.cb; cr = p.cr }

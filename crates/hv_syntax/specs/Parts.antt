@@ -1,10 +1,10 @@
 -- Parts of the bins of coding tree units, as they are put.
 use Rattle.std.specs.Prelude.{ℕ, Bool, true, false, cond, List, [], ◌∷◌, ◌++◌, ℤ}
 use Rattle.std.specs.Int.{is_negative}
-use Rattle.hv_types.specs.declared.bins.CtxTable.TheVariants.{PartMode, ChromaMode, RootCbf, CbfChroma}
+use Rattle.hv_tables.specs.declared.bins.CtxTable.TheVariants.{PartMode, ChromaMode, RootCbf, CbfChroma}
 use Rattle.hv_residual_model.specs.UnitBins.{InBypass, UnitBin, unit_bin}
-use Rattle.hv_residual_model.specs.ResidualBins.{is_significant, any_significant}
-use Rattle.hv_unit_model.specs.Trees.{Motion, Prediction, Intra, Inter, TransformUnit, any_level}
+use Rattle.hv_plan.specs.Levels.{is_significant, any_significant}
+use Rattle.hv_tree_model.specs.Trees.{Motion, Prediction, Intra, Inter, TransformUnit, any_level}
 use Rattle.hv_unit_model.specs.Bins.{bin, where_coded, luma_mode_bins, prediction_unit_bins, transform_unit_bins, transform_tree_bins, intra_part_bins}
 
 -- sao_offset_sign of one offset

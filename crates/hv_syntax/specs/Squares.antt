@@ -1,8 +1,8 @@
 -- Squares of a coding tree block by the units of its plan.
 use Rattle.std.specs.Prelude.{◌≡◌, ℕ, ◌+◌, ◌<◌, false, List, length, slice_get, slice_index_or}
-use Rattle.hv_unit_model.specs.Sites.{Site, squares, is_outside}
-use Rattle.hv_unit_model.specs.EarlierUnits.{Square, Unavailable, squares_of}
-use Rattle.hv_unit_model.specs.Plans.{Plan, square_or_none, tree_at}
+use Rattle.hv_tree_model.specs.Sites.{Site, squares, is_outside}
+use Rattle.hv_tree_model.specs.EarlierUnits.{Square, Unavailable, squares_of}
+use Rattle.hv_tree_model.specs.Plans.{Plan, square_or_none, tree_at}
 
 abbrev pub own_square : Plan → ℕ → Square
 own_square plan address = square_or_none (slice_get plan.units address)

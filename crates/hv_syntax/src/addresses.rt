@@ -1,7 +1,7 @@
 //! The 8x8 squares of a coding tree block in z-scan order (6.5.2), and the nodes of its quadtree.
 
 ghost use Rattle.std.specs.Prelude.{◌≡◌, ◌<◌, ◌≤◌, ◌*◌, ◌^◌};
-ghost use Rattle.hv_unit_model.specs.Sites.{address_of, column_of, row_of, squares, x0, y0, is_outside, crosses};
+ghost use Rattle.hv_tree_model.specs.Sites.{address_of, column_of, row_of, squares, x0, y0, is_outside, crosses};
 
 use crate::site::Site;
 

@@ -4,7 +4,7 @@ ghost use Rattle.std.specs.Prelude.{◌≡◌, length};
 
 use crate::site::Site;
 use hv_plan::Unit;
-use hv_types::SliceKind;
+use hv_tables::SliceKind;
 
 /// The units of the blocks at the left of a coding tree block and above it, as far as it is coded
 /// by them.

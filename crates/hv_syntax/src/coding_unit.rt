@@ -2,8 +2,8 @@
 
 ghost use Rattle.std.specs.Prelude.{◌≡◌};
 ghost use Rattle.hv_residual_model.specs.UnitBins.{PutsUnit};
-ghost use Rattle.hv_unit_model.specs.Plans.{prediction_of};
-ghost use Rattle.hv_unit_model.specs.Trees.{any_level};
+ghost use Rattle.hv_tree_model.specs.Plans.{prediction_of};
+ghost use Rattle.hv_tree_model.specs.Trees.{any_level};
 ghost use Rattle.hv_unit_model.specs.Bins.{pred_mode_bins, intra_part_bins};
 ghost use Rattle.hv_syntax.specs.Levels.{units_of, size_of};
 ghost use Rattle.hv_syntax.specs.Parts.{rooted_bins, intra_bins, inter_bins};
@@ -14,7 +14,7 @@ use crate::modes::put_luma_mode;
 use crate::motion::put_prediction_unit;
 use crate::transform::{has_levels, is_intra, put_transform_tree};
 use hv_plan::{Mv, Pred};
-use hv_types::{BinSink, CtxTable, SliceKind};
+use hv_tables::{BinSink, CtxTable, SliceKind};
 
 /// Puts `cu_skip_flag`, which is 0, and `pred_mode_flag`, in P slices.
 #[inline(always)]

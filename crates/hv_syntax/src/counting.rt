@@ -2,9 +2,9 @@
 //! binarizations (9.3.3): no bin is visited.
 
 ghost use Rattle.std.specs.Prelude.{◌≡◌, ◌≤◌, ◌+◌, ◌-◌, ◌*◌, ◌^◌, ◌∷◌, [], ℕ, Bool, cond, length};
-ghost use Rattle.hv_residual_model.specs.ResidualBins.{any_significant};
-ghost use Rattle.hv_unit_model.specs.Trees.{Motion, any_level};
-ghost use Rattle.hv_unit_model.specs.Plans.{prediction_of};
+ghost use Rattle.hv_plan.specs.Levels.{any_significant};
+ghost use Rattle.hv_tree_model.specs.Trees.{Motion, any_level};
+ghost use Rattle.hv_tree_model.specs.Plans.{prediction_of};
 ghost use Rattle.hv_unit_model.specs.BlockSyntax.{transform_block};
 ghost use Rattle.hv_unit_model.specs.Bins.{luma_mode_bins, greater1_bins, rest_bins, mvd_bins, prediction_unit_bins, block_bins, transform_unit_bins, transform_tree_bins};
 ghost use Rattle.hv_syntax.specs.declared.levels.UnitLevels.TheVariants.{Four};

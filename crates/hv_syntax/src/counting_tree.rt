@@ -1,9 +1,9 @@
 //! How many bins a node of the coding quadtree has (7.3.8.4).
 
 ghost use Rattle.std.specs.Prelude.{◌≡◌, ◌≤◌, ◌<◌, ◌+◌, ◌*◌, List, Bool, length};
-ghost use Rattle.hv_unit_model.specs.Sites.{squares};
-ghost use Rattle.hv_unit_model.specs.EarlierUnits.{Square, Surroundings};
-ghost use Rattle.hv_unit_model.specs.Plans.{prediction_of, leaf_of};
+ghost use Rattle.hv_tree_model.specs.Sites.{squares};
+ghost use Rattle.hv_tree_model.specs.EarlierUnits.{Square, Surroundings};
+ghost use Rattle.hv_tree_model.specs.Plans.{prediction_of, leaf_of};
 ghost use Rattle.hv_unit_model.specs.Bins.{pred_mode_bins, split_bins, predicted_bins, bins_of_node};
 ghost use Rattle.hv_syntax.specs.Levels.{units_of, size_of};
 ghost use Rattle.hv_syntax.specs.Blocks.{plan_of, place_of, node_of, Sees, Reached};
@@ -17,7 +17,7 @@ use crate::levels::UnitLevels;
 use crate::quadtree::is_leaf;
 use crate::seen::{candidates, own_unit};
 use hv_plan::Pred;
-use hv_types::SliceKind;
+use hv_tables::SliceKind;
 
 /// How many `cu_skip_flag` and `pred_mode_flag` a coding unit has.
 #[inline(always)]

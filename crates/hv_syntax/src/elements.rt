@@ -4,7 +4,7 @@ ghost use Rattle.std.specs.Prelude.{◌∷◌, []};
 ghost use Rattle.hv_residual_model.specs.UnitBins.{PutsUnit};
 ghost use Rattle.hv_unit_model.specs.Bins.{bin, where_coded};
 
-use hv_types::{BinSink, Ctx, CtxTable};
+use hv_tables::{BinSink, Ctx, CtxTable};
 
 /// Puts a bin with the context variable of this place in its table (`ctxInc` of 9.3.4.2).
 #[inline(always)]

@@ -1,9 +1,9 @@
 //! The levels of the coding units of a block.
 
 ghost use Rattle.std.specs.Prelude.{◌≡◌, ◌≤◌, ◌+◌, ◌*◌, ◌^◌, length};
-ghost use Rattle.hv_unit_model.specs.Trees.{log2TrafoSize, transform_units};
-ghost use Rattle.hv_unit_model.specs.Sites.{squares};
-ghost use Rattle.hv_unit_model.specs.Plans.{part, transform_unit_at, transform_units_at};
+ghost use Rattle.hv_tree_model.specs.Trees.{log2TrafoSize, transform_units};
+ghost use Rattle.hv_tree_model.specs.Sites.{squares};
+ghost use Rattle.hv_tree_model.specs.Plans.{part, transform_unit_at, transform_units_at};
 ghost use Rattle.hv_syntax.specs.declared.levels.UnitLevels.TheVariants.{Four};
 ghost use Rattle.hv_syntax.specs.Levels.{unit_of, units_of, size_of};
 ghost use Rattle.hv_syntax.specs.Blocks.{plan_of};

@@ -1,7 +1,7 @@
 //! The levels of coding units, by transform units.
 
 ghost use Rattle.std.specs.Prelude.{◌≡◌, ◌≤◌, ◌-◌, ◌*◌, ◌^◌, length};
-ghost use Rattle.hv_residual_model.specs.ResidualBins.{any_significant};
+ghost use Rattle.hv_plan.specs.Levels.{any_significant};
 
 use hv_residual::any_significant;
 

@@ -1,15 +1,15 @@
 //! The luma mode of intra prediction (8.4.2), and its bins (7.3.8.5).
 
 ghost use Rattle.std.specs.Prelude.{◌≡◌, ◌<◌, ◌∷◌, [], true};
-ghost use Rattle.hv_types.specs.declared.bins.CtxTable.TheVariants.{PrevIntra};
+ghost use Rattle.hv_tables.specs.declared.bins.CtxTable.TheVariants.{PrevIntra};
 ghost use Rattle.hv_residual_model.specs.Binarization.{bypass_at, truncated_unary_bins};
 ghost use Rattle.hv_residual_model.specs.UnitBins.{PutsUnit};
-ghost use Rattle.hv_unit_model.specs.MostProbableModes.{candModeList, third_mode, remaining_of};
+ghost use Rattle.hv_tree_model.specs.MostProbableModes.{candModeList, third_mode, remaining_of};
 ghost use Rattle.hv_unit_model.specs.Bins.{bin, luma_mode_bins};
 
 use crate::elements::put_bin;
 use hv_residual::{put_fixed_length, put_truncated_unary};
-use hv_types::{BinSink, CtxTable};
+use hv_tables::{BinSink, CtxTable};
 
 /// The first of planar, DC and vertical (modes 0, 1 and 26) that is neither.
 fn third_mode(left: u8, above: u8) -> u8

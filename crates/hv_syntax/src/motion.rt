@@ -8,7 +8,7 @@ ghost use Rattle.hv_unit_model.specs.Bins.{greater0_bin, greater1_bins, rest_bin
 use crate::elements::{put_bin, put_where};
 use hv_plan::Mv;
 use hv_residual::put_exp_golomb;
-use hv_types::{BinSink, CtxTable};
+use hv_tables::{BinSink, CtxTable};
 
 /// Puts `abs_mvd_greater0_flag` of a component.
 #[inline(always)]

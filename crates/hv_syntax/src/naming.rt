@@ -1,8 +1,8 @@
 //! Whether the units of a coding tree block name the coding units of its quadtree.
 
 ghost use Rattle.std.specs.Prelude.{◌≡◌, ◌<◌, ◌≤◌, ◌+◌, ◌-◌, ◌*◌, ℕ, true, false, length, slice_get, Some};
-ghost use Rattle.hv_unit_model.specs.Sites.{squares, address_of, is_outside};
-ghost use Rattle.hv_unit_model.specs.Plans.{NamesItsUnits, prediction_of, coded_square};
+ghost use Rattle.hv_tree_model.specs.Sites.{squares, address_of, is_outside};
+ghost use Rattle.hv_tree_model.specs.Plans.{NamesItsUnits, prediction_of, coded_square};
 ghost use Rattle.hv_syntax.specs.Blocks.{lists_of, ends};
 ghost use Rattle.hv_syntax.specs.Neighbours.{lists_of_plan};
 ghost use Rattle.hv_syntax.specs.Squares.{NamesNode, own_square};

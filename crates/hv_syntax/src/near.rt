@@ -1,7 +1,7 @@
 //! A block's plan and its neighbours, as far as bins need them.
 
 ghost use Rattle.std.specs.Prelude.{◌≡◌, ◌<◌, ℕ};
-ghost use Rattle.hv_unit_model.specs.Plans.{on_right, on_bottom};
+ghost use Rattle.hv_tree_model.specs.Plans.{on_right, on_bottom};
 ghost use Rattle.hv_syntax.specs.Blocks.{lists_of, side_square, AreBeside};
 ghost use Rattle.hv_syntax.specs.Neighbours.{lists_of_plan, unit_edges, around_of};
 

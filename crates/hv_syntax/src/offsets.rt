@@ -12,7 +12,7 @@ use crate::elements::{put_bin, put_where};
 use crate::site::Site;
 use hv_plan::{SaoComponent, SaoKind, SaoParam};
 use hv_residual::{put_fixed_length, put_truncated_unary};
-use hv_types::{BinSink, CtxTable};
+use hv_tables::{BinSink, CtxTable};
 
 /// Puts `sao_type_idx_luma` or `sao_type_idx_chroma`, whose second bin is in bypass.
 fn put_type<B: BinSink>(sink: &mut B, kind: SaoKind)

@@ -1,11 +1,11 @@
 //! The most probable luma modes of a unit (8.4.2), for those who choose one.
 
 ghost use Rattle.std.specs.Prelude.{◌≡◌, ◌<◌, ℕ, List, false};
-ghost use Rattle.hv_types.specs.declared.bins.SliceKind.{SliceKind};
-ghost use Rattle.hv_unit_model.specs.Sites.{is_outside};
-ghost use Rattle.hv_unit_model.specs.EarlierUnits.{Square};
-ghost use Rattle.hv_unit_model.specs.MostProbableModes.{candidates};
-ghost use Rattle.hv_unit_model.specs.Plans.{in_block};
+ghost use Rattle.hv_tables.specs.declared.bins.SliceKind.{SliceKind};
+ghost use Rattle.hv_tree_model.specs.Sites.{is_outside};
+ghost use Rattle.hv_tree_model.specs.EarlierUnits.{Square};
+ghost use Rattle.hv_tree_model.specs.MostProbableModes.{candidates};
+ghost use Rattle.hv_tree_model.specs.Plans.{in_block};
 ghost use Rattle.hv_syntax.specs.Neighbours.{lists_of_plan, around_of};
 ghost use Rattle.hv_syntax.specs.Squares.{Shows};
 
@@ -15,7 +15,7 @@ use crate::seen::candidates;
 use crate::site::Site;
 use hv_block::{CtbPlan, Neighbours};
 use hv_plan::Place;
-use hv_types::SliceKind;
+use hv_tables::SliceKind;
 
 /// The most probable luma modes (`candModeList`, 8.4.2) of a coding unit that begins at this
 /// address of the block at this place, by the units at its left and above: those of the plan, as

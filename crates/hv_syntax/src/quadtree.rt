@@ -2,9 +2,9 @@
 
 ghost use Rattle.std.specs.Prelude.{◌≡◌, ◌≤◌, ◌<◌, ◌+◌, List};
 ghost use Rattle.hv_residual_model.specs.UnitBins.{PutsUnit};
-ghost use Rattle.hv_unit_model.specs.Sites.{squares};
-ghost use Rattle.hv_unit_model.specs.EarlierUnits.{Square, Surroundings};
-ghost use Rattle.hv_unit_model.specs.Plans.{prediction_of, leaf_of};
+ghost use Rattle.hv_tree_model.specs.Sites.{squares};
+ghost use Rattle.hv_tree_model.specs.EarlierUnits.{Square, Surroundings};
+ghost use Rattle.hv_tree_model.specs.Plans.{prediction_of, leaf_of};
 ghost use Rattle.hv_unit_model.specs.Bins.{split_bins, predicted_bins, bins_of_node};
 ghost use Rattle.hv_syntax.specs.Levels.{units_of, size_of};
 ghost use Rattle.hv_syntax.specs.Blocks.{plan_of, place_of, node_of, Sees, Reached, ends};
@@ -18,7 +18,7 @@ use crate::leaves::unit_levels;
 use crate::levels::UnitLevels;
 use crate::seen::{candidates, own_unit, split_context};
 use hv_plan::Pred;
-use hv_types::{BinSink, CtxTable};
+use hv_tables::{BinSink, CtxTable};
 
 /// Puts `split_cu_flag`, which neither the least nodes have nor those that cross the picture's
 /// edge.

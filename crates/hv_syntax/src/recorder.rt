@@ -1,6 +1,6 @@
 //! What compares the bins that it is given with those that a test expects.
 
-use hv_types::{BinSink, Ctx, CtxTable};
+use hv_tables::{BinSink, Ctx, CtxTable};
 
 /// A bin: with the context variable of this place in its table (9.3.4.2), in bypass, or before
 /// terminate.
@@ -77,8 +77,8 @@ impl Recorder {
 
 impl BinSink for Recorder {
     ghost use Rattle.std.specs.Prelude.{List, ℕ};
-    ghost use Rattle.hv_types.specs.declared.bins.SliceKind.{SliceKind};
-    ghost use Rattle.hv_types.specs.Bins.{Bin};
+    ghost use Rattle.hv_tables.specs.declared.bins.SliceKind.{SliceKind};
+    ghost use Rattle.hv_tables.specs.Bins.{Bin};
 
     /// It stands for any bins: what a test sees of it is what it compared.
     ghost stands_for = { λ recorder kind qp bins. Unit {0} };

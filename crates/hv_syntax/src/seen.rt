@@ -1,11 +1,11 @@
 //! What is seen of the units beside a node (6.4.1).
 
 ghost use Rattle.std.specs.Prelude.{◌≡◌, ◌<◌, ◌≤◌, ◌+◌, cond, nat_eq, slice_get, Some};
-ghost use Rattle.hv_unit_model.specs.Trees.{depth_of};
-ghost use Rattle.hv_unit_model.specs.Sites.{row_of};
-ghost use Rattle.hv_unit_model.specs.EarlierUnits.{lies_deeper};
-ghost use Rattle.hv_unit_model.specs.MostProbableModes.{candModeList, candIntraPredMode, dc};
-ghost use Rattle.hv_unit_model.specs.Plans.{square_or_none};
+ghost use Rattle.hv_tree_model.specs.Trees.{depth_of};
+ghost use Rattle.hv_tree_model.specs.Sites.{row_of};
+ghost use Rattle.hv_tree_model.specs.EarlierUnits.{lies_deeper};
+ghost use Rattle.hv_tree_model.specs.MostProbableModes.{candModeList, candIntraPredMode, dc};
+ghost use Rattle.hv_tree_model.specs.Plans.{square_or_none};
 ghost use Rattle.hv_syntax.specs.Blocks.{side_square, seen_left, seen_above};
 
 use crate::addresses::{address_of, column_of, row_of};

@@ -1,7 +1,7 @@
 //! A coding tree block in its picture.
 
 ghost use Rattle.std.specs.Prelude.{◌≡◌, ◌<◌};
-ghost use Rattle.hv_unit_model.specs.Sites.{ctb_column, ctb_row};
+ghost use Rattle.hv_tree_model.specs.Sites.{ctb_column, ctb_row};
 
 use hv_plan::Place;
 

@@ -10,11 +10,12 @@ use crate::{
 };
 use hv_block::{Block, Edges, Neighbours};
 use hv_plan::{Mv, Node, Place, Pred, SaoComponent, SaoKind, SaoParam};
-use hv_types::CtxTable::{
+use hv_tables::CtxTable::{
     Merge, MvdGreater0, MvdGreater1, MvpFlag, PartMode, PredMode, PrevIntra, RootCbf, SaoType,
     Skip, Split,
 };
-use hv_types::{NoMemory, SliceKind};
+use hv_tables::SliceKind;
+use hv_types::NoMemory;
 use std::alloc::Global;
 use std::process::Abort;
 use std::test::Fail;

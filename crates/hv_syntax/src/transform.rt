@@ -2,11 +2,11 @@
 
 ghost use Rattle.std.specs.Prelude.{◌≡◌, ◌≤◌, ◌-◌, ◌*◌, ◌^◌, ◌∷◌, [], length};
 ghost use Rattle.hv_residual_model.specs.UnitBins.{PutsUnit};
-ghost use Rattle.hv_residual_model.specs.ResidualBins.{any_significant};
-ghost use Rattle.hv_unit_model.specs.Plans.{prediction_of};
+ghost use Rattle.hv_plan.specs.Levels.{any_significant};
+ghost use Rattle.hv_tree_model.specs.Plans.{prediction_of};
 ghost use Rattle.hv_unit_model.specs.BlockSyntax.{transform_block, is_intra, has_luma_flag};
 ghost use Rattle.hv_unit_model.specs.Bins.{block_bins, luma_flag_bins, transform_unit_bins, transform_tree_bins};
-ghost use Rattle.hv_unit_model.specs.Trees.{any_cb, any_cr, any_level};
+ghost use Rattle.hv_tree_model.specs.Trees.{any_cb, any_cr, any_level};
 ghost use Rattle.hv_syntax.specs.declared.levels.UnitLevels.TheVariants.{Four};
 ghost use Rattle.hv_syntax.specs.Levels.{unit_of, units_of, size_of};
 ghost use Rattle.hv_syntax.specs.Parts.{quarter_bins};
@@ -15,7 +15,7 @@ use crate::elements::{put_bin, put_where};
 use crate::levels::{Quarters, TransformUnit, UnitLevels};
 use hv_plan::Pred;
 use hv_residual::{put_residual, scan_of};
-use hv_types::{BinSink, CtxTable};
+use hv_tables::{BinSink, CtxTable};
 
 /// Puts `residual_coding` of a block whose coded block flag is 1.
 #[inline(always)]

@@ -1,11 +1,11 @@
 //! Coding tree units (7.3.8.2).
 
 ghost use Rattle.std.specs.Prelude.{◌≡◌, ◌<◌, ◌≤◌, ◌+◌, ◌-◌, ◌^◌, List, length};
-ghost use Rattle.hv_types.specs.Bins.{Puts};
-ghost use Rattle.hv_unit_model.specs.Plans.{NamesItsUnits, tree_at, tree_of, in_block};
+ghost use Rattle.hv_tables.specs.Bins.{Puts};
+ghost use Rattle.hv_tree_model.specs.Plans.{NamesItsUnits, tree_at, tree_of, in_block};
 ghost use Rattle.hv_unit_model.specs.Bins.{bins, bins_of_node};
-ghost use Rattle.hv_unit_model.specs.Sites.{address_of, squares};
-ghost use Rattle.hv_unit_model.specs.EarlierUnits.{Square};
+ghost use Rattle.hv_tree_model.specs.Sites.{address_of, squares};
+ghost use Rattle.hv_tree_model.specs.EarlierUnits.{Square};
 ghost use Rattle.hv_syntax.specs.Neighbours.{lists_of_plan, around_of};
 ghost use Rattle.hv_syntax.specs.Squares.{Shows, NamesNode};
 
@@ -18,7 +18,7 @@ use crate::quadtree::put_node;
 use crate::site::Site;
 use hv_block::{CtbPlan, Neighbours};
 use hv_plan::{Node, Place, SaoParam};
-use hv_types::{BinSink, SliceKind};
+use hv_tables::{BinSink, SliceKind};
 
 /// Puts a coding tree unit (`coding_tree_unit`, 7.3.8.2) and `end_of_slice_segment_flag`, which is
 /// `last`: the bins of these sample adaptive offsets and of the coding quadtree that the plan

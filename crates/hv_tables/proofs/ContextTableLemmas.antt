@@ -1,9 +1,9 @@
 -- The laws of the tables of context variables (9.3.2.2), for context_tables_laws and init_values.
 use Rattle.std.proofs.Common.{◌≡◌, ◌+◌, ◌≤◌, length, refl, arith}
-use Rattle.hv_types.specs.declared.bins.SliceKind.{SliceKind}
-use Rattle.hv_types.specs.declared.bins.SliceKind.TheVariants.{I, P}
-use Rattle.hv_types.specs.declared.bins.CtxTable.{CtxTable}
-use Rattle.hv_types.specs.declared.bins.CtxTable.TheVariants.{Split}
+use Rattle.hv_tables.specs.declared.bins.SliceKind.{SliceKind}
+use Rattle.hv_tables.specs.declared.bins.SliceKind.TheVariants.{I, P}
+use Rattle.hv_tables.specs.declared.bins.CtxTable.{CtxTable}
+use Rattle.hv_tables.specs.declared.bins.CtxTable.TheVariants.{Split}
 use Rattle.hv_tables.specs.ContextTables.{initValue, offset_of, tables, values_of_kind}
 use Rattle.hv_tables.specs.ContextTableLaws.{AreAdjacent, AreFull, HaveValues, HavePlaces, HaveSums, CoordinatesAreAlike}
 

@@ -1,10 +1,10 @@
 -- What the tables of context variables owe (9.3.2.2).
 use Rattle.std.specs.Prelude.{◌≡◌, ℕ, suc, ◌+◌, ◌*◌, ◌<◌, List, [], ◌∷◌, length}
-use Rattle.hv_types.specs.declared.bins.SliceKind.{SliceKind}
-use Rattle.hv_types.specs.declared.bins.SliceKind.TheVariants.{I, P}
-use Rattle.hv_types.specs.declared.bins.CtxTable.{CtxTable}
-use Rattle.hv_types.specs.declared.bins.CtxTable.TheVariants.{Split, Skip, PartMode, PredMode, PrevIntra, ChromaMode, Merge, RefIdx, MvdGreater0, MvdGreater1, MvpFlag, RootCbf, CbfLuma, CbfChroma, SaoMerge, SaoType, LastX, LastY, CodedSub, Sig, Greater1, Greater2}
-use Rattle.hv_types.specs.declared.bins.Ctx.{Ctx}
+use Rattle.hv_tables.specs.declared.bins.SliceKind.{SliceKind}
+use Rattle.hv_tables.specs.declared.bins.SliceKind.TheVariants.{I, P}
+use Rattle.hv_tables.specs.declared.bins.CtxTable.{CtxTable}
+use Rattle.hv_tables.specs.declared.bins.CtxTable.TheVariants.{Split, Skip, PartMode, PredMode, PrevIntra, ChromaMode, Merge, RefIdx, MvdGreater0, MvdGreater1, MvpFlag, RootCbf, CbfLuma, CbfChroma, SaoMerge, SaoType, LastX, LastY, CodedSub, Sig, Greater1, Greater2}
+use Rattle.hv_tables.specs.declared.bins.Ctx.{Ctx}
 use Rattle.hv_tables.specs.ContextTables.{initValue, size_of, offset_of, values_of, place_of, IsValid}
 
 -- these tables have their variables one after another, from this place up to the last of 140

@@ -1,11 +1,11 @@
 -- The context variables of each syntax element: their places, and the values that they start from
 -- (9.3.2.2).
 use Rattle.std.specs.Prelude.{ℕ, ◌+◌, ◌-◌, ◌<◌, List, [], ◌∷◌, ◌++◌, flat_map, length, replicate}
-use Rattle.hv_types.specs.declared.bins.SliceKind.{SliceKind}
-use Rattle.hv_types.specs.declared.bins.SliceKind.TheVariants.{I, P}
-use Rattle.hv_types.specs.declared.bins.Ctx.{Ctx}
-use Rattle.hv_types.specs.declared.bins.CtxTable.{CtxTable}
-use Rattle.hv_types.specs.declared.bins.CtxTable.TheVariants.{Split, Skip, PartMode, PredMode, PrevIntra, ChromaMode, Merge, RefIdx, MvdGreater0, MvdGreater1, MvpFlag, RootCbf, CbfLuma, CbfChroma, SaoMerge, SaoType, LastX, LastY, CodedSub, Sig, Greater1, Greater2}
+use Rattle.hv_tables.specs.declared.bins.SliceKind.{SliceKind}
+use Rattle.hv_tables.specs.declared.bins.SliceKind.TheVariants.{I, P}
+use Rattle.hv_tables.specs.declared.bins.Ctx.{Ctx}
+use Rattle.hv_tables.specs.declared.bins.CtxTable.{CtxTable}
+use Rattle.hv_tables.specs.declared.bins.CtxTable.TheVariants.{Split, Skip, PartMode, PredMode, PrevIntra, ChromaMode, Merge, RefIdx, MvdGreater0, MvdGreater1, MvpFlag, RootCbf, CbfLuma, CbfChroma, SaoMerge, SaoType, LastX, LastY, CodedSub, Sig, Greater1, Greater2}
 
 -- initValue in I slices (initType 0); none where the element isn't coded in them
 abbrev pub initValue_I : CtxTable → List ℕ

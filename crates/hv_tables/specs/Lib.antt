@@ -1,3 +1,4 @@
+pub mod Bins
 pub mod TransformMatrix
 pub mod Angles
 pub mod Quantisers

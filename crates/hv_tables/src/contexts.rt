@@ -5,7 +5,7 @@ ghost use Rattle.std.specs.Prelude.{◌≡◌, ◌≤◌, length};
 ghost use Rattle.hv_tables.specs.ContextTables.{offset_of, place_of, tables, values_of_kind};
 ghost use Rattle.hv_tables.specs.ContextTableLaws.{AreAdjacent, AreFull, HaveValues, HavePlaces, HaveSums, CoordinatesAreAlike};
 
-use hv_types::{Ctx, CtxTable, SliceKind};
+use crate::{Ctx, CtxTable, SliceKind};
 
 /// How many context variables there are.
 pub const CONTEXTS: usize = 140;

@@ -1,4 +1,4 @@
-//! Tables of H.265 that definitions and code both read: those of the arithmetic coder, the
+//! Bins with their contexts, and tables of H.265 that definitions and code both read: those of the arithmetic coder, the
 //! transform matrix, intra prediction angles, the quantisers of chroma and the factors of scaling.
 //! In `specs/` each stands as the standard's rule or row; here as a table, with the law that its
 //! entries are those.
@@ -6,6 +6,7 @@
 
 mod angles;
 mod arithmetic;
+mod bins;
 mod contexts;
 mod matrix;
 mod quantisers;
@@ -14,6 +15,7 @@ mod tests;
 
 pub use angles::{angle_laws, intra_pred_angle, inv_angle};
 pub use arithmetic::{arithmetic_tables_laws, next_state, range_tab_lps, trans_idx_lps};
+pub use bins::{BinSink, Ctx, CtxTable, SliceKind};
 pub use contexts::{CONTEXTS, context_offset, context_place, context_tables_laws, init_values};
 pub use matrix::{
     matrix_columns_4, matrix_columns_8, matrix_columns_16, matrix_columns_32, matrix_laws,

@@ -1,4 +1,3 @@
-pub mod Bins
 pub mod Configuration
 pub mod GroupInput
 pub mod Memory

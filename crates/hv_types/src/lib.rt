@@ -1,9 +1,8 @@
-//! The types that all crates of the encoder share: settings, pictures, pieces of work, bins, and
-//! the traits through which the encoder reads and writes.
+//! The types that all crates of the encoder share: settings, pictures, pieces of work, and the
+//! traits through which the encoder reads and writes.
 #![tactic(auto)]
 
 mod answers;
-mod bins;
 mod group_input;
 mod laws;
 mod memory;
@@ -19,7 +18,6 @@ mod window;
 mod words;
 
 pub use answers::{Failed, NoMemory};
-pub use bins::{BinSink, Ctx, CtxTable, SliceKind};
 pub use group_input::GroupInput;
 pub use laws::{
     bytes_are_kept, bytes_are_split, crop_undoes_pad, front_is_picture, pad_gives_picture,

@@ -12,10 +12,10 @@ use Rattle.std.proofs.Math.Nat.{mod-lt, div-add-mod, mul_comm}
 use Rattle.std.proofs.Math.Dec.{lit<, lit≤}
 use Rattle.hv_lemmas.proofs.OptionLemmas.{some_same}
 use Rattle.hv_plan.specs.declared.prediction.Unit.{Unit}
-use Rattle.hv_unit_model.specs.Trees.{Tree, Split, Outside, depth_of, greatest_size}
-use Rattle.hv_unit_model.specs.Sites.{Site, site, blocks_over, ctb_column, ctb_row, has_left, has_above, address_of, column_of, row_of, squares, is_outside}
-use Rattle.hv_unit_model.specs.EarlierUnits.{Square, Unavailable, Coded, squares_of, place_of, look_picture}
-use Rattle.hv_unit_model.specs.Plans.{Plan, leaf_at, is_leaf, tree_at, tree_of, prediction_of, square_or_none, UnitEdges, UnitsAround, on_right, on_bottom, square_around, square_inside, look_around}
+use Rattle.hv_tree_model.specs.Trees.{Tree, Split, Outside, depth_of, greatest_size}
+use Rattle.hv_tree_model.specs.Sites.{Site, site, blocks_over, ctb_column, ctb_row, has_left, has_above, address_of, column_of, row_of, squares, is_outside}
+use Rattle.hv_tree_model.specs.EarlierUnits.{Square, Unavailable, Coded, squares_of, place_of, look_picture}
+use Rattle.hv_tree_model.specs.Plans.{Plan, leaf_at, is_leaf, tree_at, tree_of, prediction_of, square_or_none, UnitEdges, UnitsAround, on_right, on_bottom, square_around, square_inside, look_around}
 use Rattle.hv_unit_model.proofs.GeometryLemmas.{address_of_place}
 use Rattle.hv_unit_model.specs.PlanLaws.{squares_of_plans, squares_before, unit_of_plan, ArePlansBefore, AreSeen, has_above_right, LieAround, PlansAreAppended, BlocksAroundAreThoseOfPicture}
 

@@ -6,14 +6,14 @@ use Rattle.std.proofs.lemmas.Nat.{mod-mul-add, div-mul-add}
 use Rattle.std.proofs.Math.Nat.{mod-lt}
 use Rattle.std.proofs.lemmas.List.{get_or_append_left, get_or-append_right}
 use Rattle.std.proofs.lemmas.Bool.{cases_lt, and_parts, leb-true, true≢false}
-use Rattle.hv_types.specs.declared.bins.SliceKind.TheVariants.{I}
+use Rattle.hv_tables.specs.declared.bins.SliceKind.TheVariants.{I}
 use Rattle.hv_lemmas.proofs.ComparisonLemmas.{lt_not_below}
-use Rattle.hv_unit_model.specs.Trees.{Intra, depth_of, side}
-use Rattle.hv_unit_model.specs.Sites.{site, blocks_over, address_of, column_of, row_of, squares, crosses}
-use Rattle.hv_unit_model.specs.EarlierUnits.{Square, Unavailable, Coded, in_picture, place_of, square_at, look_picture, left_of, above_of, lies_deeper}
-use Rattle.hv_unit_model.specs.MostProbableModes.{dc, candIntraPredMode, candModeList, candidates}
+use Rattle.hv_tree_model.specs.Trees.{Intra, depth_of, side}
+use Rattle.hv_tree_model.specs.Sites.{site, blocks_over, address_of, column_of, row_of, squares, crosses}
+use Rattle.hv_tree_model.specs.EarlierUnits.{Square, Unavailable, Coded, in_picture, place_of, square_at, look_picture, left_of, above_of, lies_deeper}
+use Rattle.hv_tree_model.specs.MostProbableModes.{dc, candIntraPredMode, candModeList, candidates}
 use Rattle.hv_unit_model.proofs.GeometryLemmas.{place_of_address, address_of_place}
-use Rattle.hv_unit_model.proofs.NodeLemmas.{IsNode, around, square_in_node, HasNeighbours, neighbours_of}
+use Rattle.hv_tree_model.proofs.NodeLemmas.{IsNode, around, square_in_node, HasNeighbours, neighbours_of}
 
 dc_or_dc : (edge : Bool) (mode : ℕ) → mode ≡ dc → cond edge dc mode ≡ dc
 dc_or_dc true mode h = refl

@@ -2,22 +2,23 @@
 use Rattle.std.proofs.Common.{ℕ, zero, suc, ◌+◌, ◌-◌, ◌*◌, ◌^◌, ◌≤◌, Bool, true, false, cond, List, [], ◌∷◌, ◌++◌, ℤ, arith}
 use Rattle.std.specs.Prelude.{nat_lt, nat_eq}
 use Rattle.std.specs.Int.RustNames.{unsigned_abs}
-use Rattle.hv_types.specs.declared.bins.SliceKind.{SliceKind}
-use Rattle.hv_types.specs.declared.bins.SliceKind.TheVariants.{I, P}
-use Rattle.hv_types.specs.declared.bins.CtxTable.TheVariants.{Split, PartMode, PrevIntra, ChromaMode, CbfLuma, CbfChroma, RootCbf, SaoMerge}
+use Rattle.hv_tables.specs.declared.bins.SliceKind.{SliceKind}
+use Rattle.hv_tables.specs.declared.bins.SliceKind.TheVariants.{I, P}
+use Rattle.hv_tables.specs.declared.bins.CtxTable.TheVariants.{Split, PartMode, PrevIntra, ChromaMode, CbfLuma, CbfChroma, RootCbf, SaoMerge}
 use Rattle.hv_plan.specs.declared.offsets.SaoKind.{SaoKind}
 use Rattle.hv_plan.specs.declared.offsets.SaoKind.TheVariants.{Off, Band, Edge}
 use Rattle.hv_plan.specs.declared.prediction.Mv.{Mv}
 use Rattle.hv_residual_model.specs.UnitBins.{UnitQuestion, UnitBin, context}
 use Rattle.hv_residual_model.specs.Binarization.{bypass_at, fixed_length_bins, truncated_unary_bins, exp_golomb_bins}
-use Rattle.hv_residual_model.specs.ResidualBins.{any_significant, is_significant, sign_bins, signs}
+use Rattle.hv_residual_model.specs.ResidualBins.{sign_bins, signs}
+use Rattle.hv_plan.specs.Levels.{any_significant, is_significant}
 use Rattle.hv_residual_model.specs.ResidualLaws.{IsAskedIn, AreAskedIn}
 use Rattle.hv_residual_model.proofs.ContextLemmas.{levels_ask_there}
-use Rattle.hv_unit_model.specs.Trees.{Motion, Prediction, Intra, Inter, TransformUnit, Leaf, Split as SplitTree, Outside, depth_of, greatest_size, log2TrafoSize, any_cb, any_cr, any_level}
-use Rattle.hv_unit_model.specs.Sites.{has_left, has_above, squares, crosses}
-use Rattle.hv_unit_model.specs.EarlierUnits.{Square, Unavailable, Coded, after, Surroundings, left_of, above_of, lies_deeper, split_ctxInc}
-use Rattle.hv_unit_model.specs.MostProbableModes.{candidates, is_candidate, mpm_idx_of, remaining_of}
-use Rattle.hv_unit_model.specs.Validity.{IsPrediction, IsValidNode}
+use Rattle.hv_tree_model.specs.Trees.{Motion, Prediction, Intra, Inter, TransformUnit, Leaf, Split as SplitTree, Outside, depth_of, greatest_size, log2TrafoSize, any_cb, any_cr, any_level}
+use Rattle.hv_tree_model.specs.Sites.{has_left, has_above, squares, crosses}
+use Rattle.hv_tree_model.specs.EarlierUnits.{Square, Unavailable, Coded, after, Surroundings, left_of, above_of, lies_deeper, split_ctxInc}
+use Rattle.hv_tree_model.specs.MostProbableModes.{candidates, is_candidate, mpm_idx_of, remaining_of}
+use Rattle.hv_tree_model.specs.Validity.{IsPrediction, IsValidNode}
 use Rattle.hv_unit_model.specs.BlockSyntax.{sao_type_at, transform_block, has_luma_flag}
 use Rattle.hv_unit_model.specs.Bins.{bin, merge_bins, type_of, sao_type_bins, offsets_abs_bins, component_bins, cr_bins, sao_bins, luma_mode_bins, greater1_bins, rest_bins, mvd_bins, prediction_unit_bins, block_bins, transform_unit_bins, quarters_bins, single_bins, transform_tree_bins, pred_mode_bins, intra_part_bins, predicted_bins, split_bins, bins_of_node}
 use Rattle.hv_unit_model.specs.UnitLaws.{OffsetsAskForVariablesThatAreThere, NodesAskForVariablesThatAreThere}

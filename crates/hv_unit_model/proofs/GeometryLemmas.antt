@@ -5,7 +5,7 @@ use Rattle.std.specs.Prelude.{nat_eq, nat_lt, not, ◌&&◌, ◌||◌}
 use Rattle.std.proofs.lemmas.Bool.{and_parts, ltb-true, eqb-true, eq-eqb}
 use Rattle.hv_lemmas.proofs.ComputedLemmas.{all_below, holds_below}
 use Rattle.hv_lemmas.proofs.BooleanLemmas.{or_right}
-use Rattle.hv_unit_model.specs.Sites.{address_of, column_of, row_of, squares}
+use Rattle.hv_tree_model.specs.Sites.{address_of, column_of, row_of, squares}
 use Rattle.hv_unit_model.specs.UnitLaws.{AddressesArePlaces, PlacesHaveAddresses, NodesAreSquares}
 
 -- ---- one to one

@@ -1,6 +1,6 @@
 -- What every value of a script is, whatever answers it.
 use Rattle.std.proofs.Common.{◌≡◌, ℕ, zero, suc, ◌+◌, ◌^◌, ◌<◌, ◌≤◌, Bool, true, false, cond, List, [], ◌∷◌, refl, arith, pow-suc}
-use Rattle.hv_types.specs.Bins.{Answered}
+use Rattle.hv_tables.specs.Bins.{Answered}
 use Rattle.hv_stream_model.specs.Scripts.{Script, Done, Ask, Fail, only_if, ◌>>=◌, Reads, nothing, one}
 use Rattle.hv_residual_model.specs.UnitBins.{UnitQuestion, UnitScript, in_slice}
 use Rattle.hv_residual_model.specs.Binarization.{fixed_length, truncated_unary}

@@ -6,7 +6,6 @@ pub mod GeometryLemmas
 pub mod GivenLemmas
 pub mod ModeLemmas
 pub mod MotionLemmas
-pub mod NodeLemmas
 pub mod OffsetLemmas
 pub mod ReadOffsetLemmas
 pub mod ReadUnitLemmas

@@ -7,11 +7,11 @@ use Rattle.std.specs.Prelude.{nat_le}
 use Rattle.hv_lemmas.proofs.ComputedLemmas.{all_below, holds_below}
 use Rattle.hv_stream_model.specs.Scripts.{Reads, one}
 use Rattle.hv_stream_model.proofs.ScriptLemmas.{reads_map}
-use Rattle.hv_types.specs.declared.bins.CtxTable.TheVariants.{PrevIntra}
+use Rattle.hv_tables.specs.declared.bins.CtxTable.TheVariants.{PrevIntra}
 use Rattle.hv_residual_model.specs.UnitBins.{UnitBin}
 use Rattle.hv_residual_model.specs.Binarization.{bypass_at, truncated_unary_bins, fixed_length_bins}
-use Rattle.hv_unit_model.specs.MostProbableModes.{candModeList, is_candidate, mpm_idx_of, remaining_of, mode_of_remaining}
-use Rattle.hv_unit_model.specs.Validity.{intra_modes}
+use Rattle.hv_tree_model.specs.MostProbableModes.{candModeList, is_candidate, mpm_idx_of, remaining_of, mode_of_remaining}
+use Rattle.hv_tree_model.specs.Validity.{intra_modes}
 use Rattle.hv_unit_model.specs.BlockSyntax.{luma_mode}
 use Rattle.hv_unit_model.specs.Bins.{bin, luma_mode_bins}
 use Rattle.hv_residual_model.proofs.BinarizationLemmas.{reads_small_number, reads_truncated_unary}

@@ -4,21 +4,22 @@ use Rattle.std.specs.Prelude.{nat_lt, nat_eq}
 use Rattle.std.specs.Int.{is_negative}
 use Rattle.std.specs.Int.RustNames.{unsigned_abs}
 use Rattle.std.proofs.lemmas.Bool.{ltb-true, ltb-false}
-use Rattle.hv_types.specs.declared.bins.CtxTable.TheVariants.{RefIdx, MvdGreater1}
+use Rattle.hv_tables.specs.declared.bins.CtxTable.TheVariants.{RefIdx, MvdGreater1}
 use Rattle.hv_plan.specs.declared.prediction.Mv.{Mv}
 use Rattle.hv_stream_model.specs.Scripts.{Done, Ask, Reads, nothing, one, only_if}
 use Rattle.hv_stream_model.proofs.ScriptLemmas.{reads_then, reads_map, where_true}
 use Rattle.hv_residual_model.specs.UnitBins.{UnitScript, InBypass, unit_bin, context}
 use Rattle.hv_residual_model.specs.Binarization.{exp_golomb_bins}
-use Rattle.hv_residual_model.specs.ResidualSyntax.{with_sign, has_16_bits}
-use Rattle.hv_residual_model.specs.ResidualBins.{is_significant}
-use Rattle.hv_unit_model.specs.Trees.{Motion}
-use Rattle.hv_unit_model.specs.Validity.{IsMotion}
+use Rattle.hv_residual_model.specs.ResidualSyntax.{with_sign}
+use Rattle.hv_plan.specs.Levels.{has_16_bits, is_significant}
+use Rattle.hv_tree_model.specs.Trees.{Motion}
+use Rattle.hv_tree_model.specs.Validity.{IsMotion}
 use Rattle.hv_unit_model.specs.BlockSyntax.{digit, abs_mvd_greater1_flag, mvd_magnitude, mvd_component, mvd_coding, prediction_unit}
 use Rattle.hv_unit_model.specs.Bins.{bin, where_coded, greater1_bins, rest_bins, mvd_bins, prediction_unit_bins}
 use Rattle.hv_residual_model.proofs.BinarizationLemmas.{reads_exp_golomb}
 use Rattle.hv_unit_model.proofs.FlagLemmas.{reads_done, reads_where}
-use Rattle.hv_unit_model.proofs.SignLemmas.{with_own_sign, small_magnitude, insignificant, significant_above_0}
+use Rattle.hv_unit_model.proofs.SignLemmas.{with_own_sign}
+use Rattle.hv_tree_model.proofs.LevelLemmas.{small_magnitude, insignificant, significant_above_0}
 
 -- ---- a component of a difference
 

@@ -12,8 +12,8 @@ use Rattle.hv_residual_model.specs.UnitBins.{UnitBin, UnitScript}
 use Rattle.hv_residual_model.specs.Binarization.{fixed_length, fixed_length_bins, bypass_at}
 use Rattle.hv_residual_model.specs.ResidualSyntax.{with_sign}
 use Rattle.hv_residual_model.specs.ResidualBins.{signs, sign_bins}
-use Rattle.hv_unit_model.specs.Sites.{has_left, has_above}
-use Rattle.hv_unit_model.specs.Validity.{Range, is_in, are_in, either_way, raising, lowering, no_change, ranges_of, IsKind, go_together}
+use Rattle.hv_tree_model.specs.Sites.{has_left, has_above}
+use Rattle.hv_tree_model.specs.Validity.{Range, is_in, are_in, either_way, raising, lowering, no_change, ranges_of, IsKind, go_together}
 use Rattle.hv_unit_model.specs.BlockSyntax.{merge_flag, sao_type_idx, sao_type_at, sao_offset_abs, sao_offset_sign, edge_signs, with_signs, component, off_component, band_component, edge_component, component_of_type, component_like, sao}
 use Rattle.hv_unit_model.specs.Bins.{merge_bins, type_of, sao_type_bins, offsets_abs_bins, class_bins, component_bins, cr_bins, sao_bins}
 use Rattle.hv_unit_model.specs.UnitLaws.{OffsetsAreReadBack}

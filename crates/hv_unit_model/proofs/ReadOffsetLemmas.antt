@@ -8,8 +8,8 @@ use Rattle.hv_stream_model.specs.Scripts.{Done}
 use Rattle.hv_residual_model.specs.UnitBins.{UnitScript}
 use Rattle.hv_residual_model.specs.Binarization.{truncated_unary, fixed_length, bypass_at}
 use Rattle.hv_residual_model.specs.ResidualSyntax.{with_sign}
-use Rattle.hv_unit_model.specs.Sites.{Site, has_left, has_above}
-use Rattle.hv_unit_model.specs.Validity.{is_in, are_in, either_way, raising, lowering, IsKind, go_together, AreComponentOffsets, AreOffsets}
+use Rattle.hv_tree_model.specs.Sites.{Site, has_left, has_above}
+use Rattle.hv_tree_model.specs.Validity.{is_in, are_in, either_way, raising, lowering, IsKind, go_together, AreComponentOffsets, AreOffsets}
 use Rattle.hv_unit_model.specs.BlockSyntax.{merge_flag, sao_type_idx, sao_offset_abs, sao_offset_sign, edge_signs, with_signs, component, off_component, band_component, edge_component, component_of_type, component_like, sao}
 use Rattle.hv_unit_model.specs.UnitLaws.{OffsetsThatAreReadMayBeCoded}
 use Rattle.hv_unit_model.proofs.GivenLemmas.{Gives, given, gives_then, gives_after, fixed_below, unary_at_most}

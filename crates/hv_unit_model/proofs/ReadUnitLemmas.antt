@@ -2,22 +2,23 @@
 use Rattle.std.proofs.Common.{◌≡◌, ℕ, zero, suc, ◌+◌, ◌-◌, ◌*◌, ◌<◌, ◌≤◌, Bool, true, false, cond, List, [], ◌∷◌, refl, sym, subst, arith, ltb-true, ltb-false}
 use Rattle.std.specs.Prelude.{nat_lt, nat_eq, ◌&&◌, slice_index_or}
 use Rattle.std.proofs.lemmas.Bool.{and_parts}
-use Rattle.hv_types.specs.declared.bins.SliceKind.{SliceKind}
-use Rattle.hv_types.specs.declared.bins.SliceKind.TheVariants.{I, P}
-use Rattle.hv_types.specs.declared.bins.CtxTable.TheVariants.{PredMode, Split as SplitFlag}
+use Rattle.hv_tables.specs.declared.bins.SliceKind.{SliceKind}
+use Rattle.hv_tables.specs.declared.bins.SliceKind.TheVariants.{I, P}
+use Rattle.hv_tables.specs.declared.bins.CtxTable.TheVariants.{PredMode, Split as SplitFlag}
 use Rattle.hv_plan.specs.declared.prediction.Mv.{Mv}
 use Rattle.hv_lemmas.specs.Booleans.{same}
 use Rattle.hv_lemmas.proofs.ComputedLemmas.{all_below, holds_below}
 use Rattle.hv_stream_model.specs.Scripts.{Done, ask, only_if, ◌>>=◌}
 use Rattle.hv_residual_model.specs.UnitBins.{UnitScript, context, in_slice}
 use Rattle.hv_residual_model.specs.Binarization.{truncated_unary, fixed_length, bypass_at}
-use Rattle.hv_residual_model.specs.ResidualSyntax.{with_sign, has_16_bits, residual_coding}
+use Rattle.hv_residual_model.specs.ResidualSyntax.{with_sign, residual_coding}
+use Rattle.hv_plan.specs.Levels.{has_16_bits}
 use Rattle.hv_residual_model.proofs.RangeLemmas.{read_levels_are_small}
-use Rattle.hv_unit_model.specs.Trees.{Prediction, Intra, Inter, TransformUnit, Tree, Leaf, Outside, CodingTreeUnit, greatest_size, log2TrafoSize, transform_units, any_cb, any_cr, any_level}
-use Rattle.hv_unit_model.specs.Sites.{Site, squares, is_outside, crosses, must_split, row_of}
-use Rattle.hv_unit_model.specs.EarlierUnits.{Square, after, Surroundings, in_picture, left_of, above_of, split_ctxInc}
-use Rattle.hv_unit_model.specs.MostProbableModes.{dc, candIntraPredMode, candModeList, candidates, mode_of_remaining}
-use Rattle.hv_unit_model.specs.Validity.{IsMotion, IsPrediction, HaveLevels, IsTransformUnit, AreTransformUnits, HaveModes, SeesModes, IsValidNode, IsValidTree, AreOffsets, AreValid, is_empty, intra_modes}
+use Rattle.hv_tree_model.specs.Trees.{Prediction, Intra, Inter, TransformUnit, Tree, Leaf, Outside, CodingTreeUnit, greatest_size, log2TrafoSize, transform_units, any_cb, any_cr, any_level}
+use Rattle.hv_tree_model.specs.Sites.{Site, squares, is_outside, crosses, must_split, row_of}
+use Rattle.hv_tree_model.specs.EarlierUnits.{Square, after, Surroundings, in_picture, left_of, above_of, split_ctxInc}
+use Rattle.hv_tree_model.specs.MostProbableModes.{dc, candIntraPredMode, candModeList, candidates, mode_of_remaining}
+use Rattle.hv_tree_model.specs.Validity.{IsMotion, IsPrediction, HaveLevels, IsTransformUnit, AreTransformUnits, HaveModes, SeesModes, IsValidNode, IsValidTree, AreOffsets, AreValid, is_empty, intra_modes}
 use Rattle.hv_unit_model.specs.BlockSyntax.{digit, luma_mode, abs_mvd_greater1_flag, mvd_magnitude, mvd_component, mvd_coding, ref_idx_l0, prediction_unit, transform_block, block_levels, chroma_flag, luma_flag, transform_unit, quarters, four_quarters, transform_tree, rooted_tree, pred_mode_flag, intra_part_mode, part_mode, intra_chroma_pred_mode, intra_unit, inter_unit, coding_unit, four_nodes, coding_quadtree, sao, coding_tree_unit, slice_data_from}
 use Rattle.hv_unit_model.specs.UnitLaws.{HasReferences, NodesThatAreReadMayBeCoded, SliceDataThatIsReadMayBeCoded}
 use Rattle.hv_unit_model.proofs.GivenLemmas.{Gives, given, gives_of_reads, gives_then, gives_after, gives_if, gives_either, gives_in_slice, fixed_below, unary_at_most}

@@ -3,14 +3,14 @@
 use Rattle.std.proofs.Common.{◌≡◌, ℕ, zero, suc, ◌+◌, ◌*◌, ◌<◌, ◌≤◌, Bool, true, false, cond, List, [], ◌∷◌, ◌++◌, length, length-append, refl, ap, ap₂, arith}
 use Rattle.std.specs.Prelude.{nat_eq}
 use Rattle.std.proofs.lemmas.List.{length-replicate}
-use Rattle.hv_types.specs.declared.bins.SliceKind.{SliceKind}
-use Rattle.hv_types.specs.declared.bins.CtxTable.TheVariants.{Split as SplitTable, ChromaMode}
-use Rattle.hv_unit_model.specs.Trees.{Prediction, Intra, Inter, TransformUnit, Tree, Leaf, Split, Outside, depth_of}
-use Rattle.hv_unit_model.specs.Sites.{Site, squares, crosses, column_of, row_of}
-use Rattle.hv_unit_model.specs.EarlierUnits.{Square, Unavailable, Coded, squares_of, Look, Surroundings, after, look_picture, left_of, above_of, lies_deeper}
-use Rattle.hv_unit_model.specs.MostProbableModes.{dc, candIntraPredMode, candModeList, candidates}
+use Rattle.hv_tables.specs.declared.bins.SliceKind.{SliceKind}
+use Rattle.hv_tables.specs.declared.bins.CtxTable.TheVariants.{Split as SplitTable, ChromaMode}
+use Rattle.hv_tree_model.specs.Trees.{Prediction, Intra, Inter, TransformUnit, Tree, Leaf, Split, Outside, depth_of}
+use Rattle.hv_tree_model.specs.Sites.{Site, squares, crosses, column_of, row_of}
+use Rattle.hv_tree_model.specs.EarlierUnits.{Square, Unavailable, Coded, squares_of, Look, Surroundings, after, look_picture, left_of, above_of, lies_deeper}
+use Rattle.hv_tree_model.specs.MostProbableModes.{dc, candIntraPredMode, candModeList, candidates}
 use Rattle.hv_unit_model.specs.Bins.{bin, intra_part_bins, luma_mode_bins, transform_tree_bins, predicted_bins, coding_unit_bins, pred_mode_bins, split_bins, bins_of_node}
-use Rattle.hv_unit_model.specs.Plans.{look_around}
+use Rattle.hv_tree_model.specs.Plans.{look_around}
 use Rattle.hv_unit_model.specs.PlanLaws.{squares_before, BinsInBlockAreThoseInPicture}
 use Rattle.hv_unit_model.proofs.AroundLemmas.{blocks_around}
 

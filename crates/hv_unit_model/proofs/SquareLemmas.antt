@@ -2,12 +2,12 @@
 use Rattle.std.proofs.Common.{◌≡◌, length, length-append, ℕ, zero, suc, ◌+◌, ◌*◌, ◌<◌, Bool, true, false, cond, List, [], ◌∷◌, ◌++◌, replicate, arith}
 use Rattle.std.specs.Prelude.{slice_index_or}
 use Rattle.std.proofs.lemmas.List.{length-replicate}
-use Rattle.hv_types.specs.declared.bins.SliceKind.{SliceKind}
-use Rattle.hv_unit_model.specs.Trees.{Prediction, Intra, Inter, Tree, Leaf, Split, Outside, depth_of}
-use Rattle.hv_unit_model.specs.Sites.{Site, squares}
-use Rattle.hv_unit_model.specs.EarlierUnits.{Square, Unavailable, Coded, squares_of, look_picture}
-use Rattle.hv_unit_model.specs.MostProbableModes.{dc, candIntraPredMode}
-use Rattle.hv_unit_model.specs.Validity.{IsPrediction, IsValidNode, HasMode, HaveModes, SeesModes, intra_modes}
+use Rattle.hv_tables.specs.declared.bins.SliceKind.{SliceKind}
+use Rattle.hv_tree_model.specs.Trees.{Prediction, Intra, Inter, Tree, Leaf, Split, Outside, depth_of}
+use Rattle.hv_tree_model.specs.Sites.{Site, squares}
+use Rattle.hv_tree_model.specs.EarlierUnits.{Square, Unavailable, Coded, squares_of, look_picture}
+use Rattle.hv_tree_model.specs.MostProbableModes.{dc, candIntraPredMode}
+use Rattle.hv_tree_model.specs.Validity.{IsPrediction, IsValidNode, HasMode, HaveModes, SeesModes, intra_modes}
 use Rattle.hv_unit_model.specs.UnitLaws.{NodesHaveTheirSquares}
 
 pub modes_then : (xs ys : List Square) → HaveModes xs → HaveModes ys → HaveModes (xs ++ ys)

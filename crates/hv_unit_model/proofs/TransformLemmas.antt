@@ -2,23 +2,23 @@
 use Rattle.std.proofs.Common.{◌≡◌, ℕ, zero, suc, ◌-◌, ◌*◌, ◌^◌, ◌≤◌, Bool, true, false, cond, List, [], ◌∷◌, length, replicate, refl, sym, ap₂, subst, arith, append-nil, ℤ, pos}
 use Rattle.std.specs.Prelude.{nat_lt, ◌&&◌, ◌||◌}
 use Rattle.std.specs.List.{list_all}
-use Rattle.hv_residual_model.specs.ResidualSyntax.{has_16_bits}
+use Rattle.hv_plan.specs.Levels.{has_16_bits, any_significant, is_significant}
 use Rattle.std.proofs.lemmas.List.{length-replicate}
 use Rattle.std.proofs.lemmas.Bool.{ltb-false, or_parts, and_from, true≢false}
-use Rattle.hv_types.specs.declared.bins.CtxTable.TheVariants.{CbfChroma}
+use Rattle.hv_tables.specs.declared.bins.CtxTable.TheVariants.{CbfChroma}
 use Rattle.hv_lemmas.specs.Booleans.{same}
 use Rattle.hv_lemmas.proofs.BooleanLemmas.{same_self}
 use Rattle.hv_stream_model.specs.Scripts.{Reads, nothing, one}
 use Rattle.hv_stream_model.proofs.ScriptLemmas.{reads_then, reads_map, where_true}
 use Rattle.hv_residual_model.specs.UnitBins.{UnitBin, context}
-use Rattle.hv_residual_model.specs.ResidualBins.{any_significant, is_significant, residual_bins}
+use Rattle.hv_residual_model.specs.ResidualBins.{residual_bins}
 use Rattle.hv_residual_model.proofs.ResidualLemmas.{reads_residual}
-use Rattle.hv_unit_model.specs.Trees.{Prediction, TransformUnit, greatest_size, log2TrafoSize, transform_units, no_levels, no_unit, no_units, any_cb, any_cr, any_level}
-use Rattle.hv_unit_model.specs.Validity.{HaveLevels, IsTransformUnit, AreTransformUnits}
+use Rattle.hv_tree_model.specs.Trees.{Prediction, TransformUnit, greatest_size, log2TrafoSize, transform_units, no_levels, no_unit, no_units, any_cb, any_cr, any_level}
+use Rattle.hv_tree_model.specs.Validity.{HaveLevels, IsTransformUnit, AreTransformUnits}
 use Rattle.hv_unit_model.specs.BlockSyntax.{transform_block, is_intra, block_levels, luma_flag_at, has_luma_flag, transform_unit, quarters, four_quarters, transform_tree, rooted_tree}
 use Rattle.hv_unit_model.specs.Bins.{block_bins, transform_unit_bins, quarters_bins, transform_tree_bins}
 use Rattle.hv_unit_model.proofs.FlagLemmas.{reads_done, reads_where}
-use Rattle.hv_unit_model.proofs.SignLemmas.{insignificant}
+use Rattle.hv_tree_model.proofs.LevelLemmas.{insignificant}
 
 or_false : (b : Bool) → b ≡ b || false
 or_false true = refl

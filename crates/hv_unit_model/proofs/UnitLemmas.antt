@@ -4,19 +4,19 @@ use Rattle.std.proofs.Common.{◌≡◌, ◌≢◌, ℕ, zero, suc, ◌+◌, ◌
 use Rattle.std.specs.Prelude.{nat_eq}
 use Rattle.std.proofs.lemmas.Bool.{true≢false, false≢true}
 use Rattle.std.proofs.lemmas.Nat.{mul-le}
-use Rattle.hv_types.specs.declared.bins.SliceKind.{SliceKind}
-use Rattle.hv_types.specs.declared.bins.SliceKind.TheVariants.{I, P}
-use Rattle.hv_types.specs.declared.bins.CtxTable.TheVariants.{Split}
+use Rattle.hv_tables.specs.declared.bins.SliceKind.{SliceKind}
+use Rattle.hv_tables.specs.declared.bins.SliceKind.TheVariants.{I, P}
+use Rattle.hv_tables.specs.declared.bins.CtxTable.TheVariants.{Split}
 use Rattle.hv_lemmas.specs.Booleans.{same}
 use Rattle.hv_stream_model.specs.Scripts.{Reads, nothing, one, Done, ask, ◌>>=◌}
 use Rattle.hv_stream_model.proofs.ScriptLemmas.{reads_then, reads_map, where_true}
 use Rattle.hv_residual_model.specs.UnitBins.{UnitQuestion, UnitBin, UnitScript, unit_bin, context}
 use Rattle.hv_residual_model.proofs.UnitBinLemmas.{reads_in_slice}
-use Rattle.hv_unit_model.specs.Trees.{Motion, Prediction, Intra, Inter, TransformUnit, Tree, Leaf, Split as SplitTree, Outside, CodingTreeUnit, greatest_size, log2TrafoSize, transform_units}
-use Rattle.hv_unit_model.specs.Sites.{Site, site, sites, sites_from, blocks_over, squares, crosses, row_of}
-use Rattle.hv_unit_model.specs.EarlierUnits.{Square, Surroundings, squares_of, after, in_picture, left_of, above_of, split_ctxInc}
-use Rattle.hv_unit_model.specs.MostProbableModes.{dc, candIntraPredMode}
-use Rattle.hv_unit_model.specs.Validity.{IsMotion, IsPrediction, AreTransformUnits, IsValidNode, HaveModes, SeesModes, AreValid, intra_modes, is_empty}
+use Rattle.hv_tree_model.specs.Trees.{Motion, Prediction, Intra, Inter, TransformUnit, Tree, Leaf, Split as SplitTree, Outside, CodingTreeUnit, greatest_size, log2TrafoSize, transform_units}
+use Rattle.hv_tree_model.specs.Sites.{Site, site, sites, sites_from, blocks_over, squares, crosses, row_of}
+use Rattle.hv_tree_model.specs.EarlierUnits.{Square, Surroundings, squares_of, after, in_picture, left_of, above_of, split_ctxInc}
+use Rattle.hv_tree_model.specs.MostProbableModes.{dc, candIntraPredMode}
+use Rattle.hv_tree_model.specs.Validity.{IsMotion, IsPrediction, AreTransformUnits, IsValidNode, HaveModes, SeesModes, AreValid, intra_modes, is_empty}
 use Rattle.hv_unit_model.specs.BlockSyntax.{intra_part_mode, pred_mode_flag, intra_unit, inter_unit, coding_unit, coding_quadtree, slice_data_from}
 use Rattle.hv_unit_model.specs.Bins.{intra_part_bins, pred_mode_bins, predicted_bins, coding_unit_bins, bins_of_node, slice_bins_from}
 use Rattle.hv_unit_model.specs.UnitLaws.{NodesAreReadBack, CodingTreeUnitsAreRead, SliceDataIsReadBack, SitesAreThere}

@@ -5,10 +5,10 @@ use Rattle.std.proofs.Common.{◌≡◌, ℕ, [], ◌∷◌, refl}
 use Rattle.std.specs.Prelude.{Some, None}
 use Rattle.hv_plan.specs.declared.prediction.Pred.TheVariants.{Intra as IntraPred}
 use Rattle.hv_plan.specs.declared.prediction.Unit.{Unit}
-use Rattle.hv_unit_model.specs.Trees.{Intra}
-use Rattle.hv_unit_model.specs.Sites.{Site, site, address_of}
-use Rattle.hv_unit_model.specs.EarlierUnits.{Unavailable, Coded}
-use Rattle.hv_unit_model.specs.Plans.{UnitEdges, UnitsAround, look_around}
+use Rattle.hv_tree_model.specs.Trees.{Intra}
+use Rattle.hv_tree_model.specs.Sites.{Site, site, address_of}
+use Rattle.hv_tree_model.specs.EarlierUnits.{Unavailable, Coded}
+use Rattle.hv_tree_model.specs.Plans.{UnitEdges, UnitsAround, look_around}
 
 unit : ℕ → Unit
 unit mode = record { depth = 1; pred = IntraPred mode }

@@ -1,9 +1,9 @@
 -- Worked values of the most probable modes (8.4.2), and of the remaining ones.
 use Rattle.std.proofs.Common.{◌≡◌, ℕ, Bool, true, false, List, [], ◌∷◌, refl, map}
-use Rattle.hv_types.specs.declared.bins.CtxTable.TheVariants.{PrevIntra}
+use Rattle.hv_tables.specs.declared.bins.CtxTable.TheVariants.{PrevIntra}
 use Rattle.hv_residual_model.specs.UnitBins.{UnitBin, InBypass, unit_bin}
 use Rattle.hv_residual_model.specs.Binarization.{truncated_unary_bins}
-use Rattle.hv_unit_model.specs.MostProbableModes.{candModeList, remaining_of, mode_of_remaining}
+use Rattle.hv_tree_model.specs.MostProbableModes.{candModeList, remaining_of, mode_of_remaining}
 use Rattle.hv_unit_model.specs.Bins.{bin, luma_mode_bins}
 
 bypass_of : List Bool → List UnitBin

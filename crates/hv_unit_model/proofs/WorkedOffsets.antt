@@ -1,11 +1,11 @@
 -- Worked values of the bins of sample adaptive offsets (7.3.8.3).
 use Rattle.std.proofs.Common.{◌≡◌, Bool, true, false, List, [], ◌∷◌, ◌++◌, refl, ℤ, pos, negsuc, map}
-use Rattle.hv_types.specs.declared.bins.CtxTable.TheVariants.{SaoMerge, SaoType}
+use Rattle.hv_tables.specs.declared.bins.CtxTable.TheVariants.{SaoMerge, SaoType}
 use Rattle.hv_plan.specs.declared.offsets.SaoKind.TheVariants.{Off, Band, Edge}
 use Rattle.hv_plan.specs.declared.offsets.SaoParam.{SaoParam}
 use Rattle.hv_residual_model.specs.UnitBins.{UnitBin, InBypass, unit_bin}
 use Rattle.hv_residual_model.specs.Binarization.{truncated_unary_bins}
-use Rattle.hv_unit_model.specs.Sites.{site}
+use Rattle.hv_tree_model.specs.Sites.{site}
 use Rattle.hv_unit_model.specs.BlockSyntax.{component}
 use Rattle.hv_unit_model.specs.Bins.{bin, sao_bins}
 

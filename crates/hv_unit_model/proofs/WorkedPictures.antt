@@ -1,15 +1,15 @@
 -- Worked values of what earlier blocks and units tell later ones, and of nodes at the edges of a
 -- picture.
 use Rattle.std.proofs.Common.{◌≡◌, ℕ, true, false, List, [], ◌∷◌, ◌++◌, refl}
-use Rattle.hv_types.specs.declared.bins.CtxTable.TheVariants.{PartMode, PrevIntra, ChromaMode, CbfLuma, CbfChroma}
-use Rattle.hv_types.specs.declared.bins.SliceKind.TheVariants.{I}
+use Rattle.hv_tables.specs.declared.bins.CtxTable.TheVariants.{PartMode, PrevIntra, ChromaMode, CbfLuma, CbfChroma}
+use Rattle.hv_tables.specs.declared.bins.SliceKind.TheVariants.{I}
 use Rattle.hv_residual_model.specs.UnitBins.{UnitBin, InBypass, unit_bin}
 use Rattle.hv_residual_model.specs.Binarization.{truncated_unary_bins}
 use Rattle.hv_lemmas.specs.Lists.{tabulate}
-use Rattle.hv_unit_model.specs.Trees.{Motion, Intra, Inter, Tree, Leaf, Split as SplitTree, Outside, no_levels, no_units}
-use Rattle.hv_unit_model.specs.Sites.{Site, site, sites, address_of, column_of, row_of, is_outside, crosses, must_split}
-use Rattle.hv_unit_model.specs.EarlierUnits.{Unavailable, Coded, square_at, Square, squares_of, Surroundings, look_picture, in_picture, split_ctxInc}
-use Rattle.hv_unit_model.specs.MostProbableModes.{candModeList, candidates}
+use Rattle.hv_tree_model.specs.Trees.{Motion, Intra, Inter, Tree, Leaf, Split as SplitTree, Outside, no_levels, no_units}
+use Rattle.hv_tree_model.specs.Sites.{Site, site, sites, address_of, column_of, row_of, is_outside, crosses, must_split}
+use Rattle.hv_tree_model.specs.EarlierUnits.{Unavailable, Coded, square_at, Square, squares_of, Surroundings, look_picture, in_picture, split_ctxInc}
+use Rattle.hv_tree_model.specs.MostProbableModes.{candModeList, candidates}
 use Rattle.hv_unit_model.specs.Bins.{bin, luma_mode_bins, transform_tree_bins, transform_unit_bins, predicted_bins, bins_of_node}
 
 -- a unit of this mode

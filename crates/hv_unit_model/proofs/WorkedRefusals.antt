@@ -1,15 +1,15 @@
 -- Bins that the syntax of this profile refuses, and such as it takes.
 use Rattle.std.proofs.Common.{◌≡◌, Bool, true, false, List, [], ◌∷◌, ◌++◌, refl, replicate, ℤ, pos, negsuc}
 use Rattle.std.specs.Prelude.{Option, Some, None}
-use Rattle.hv_types.specs.declared.bins.SliceKind.TheVariants.{P}
+use Rattle.hv_tables.specs.declared.bins.SliceKind.TheVariants.{P}
 use Rattle.hv_plan.specs.declared.prediction.Mv.{Mv}
 use Rattle.hv_stream_model.specs.Scripts.{run}
 use Rattle.hv_residual_model.specs.UnitBins.{UnitQuestion, UnitScript}
 use Rattle.hv_residual_model.specs.Binarization.{truncated_unary, exp_golomb}
-use Rattle.hv_unit_model.specs.Trees.{Prediction, Intra, Inter, Tree, Leaf, no_levels, no_units}
-use Rattle.hv_unit_model.specs.Sites.{site, address_of, column_of, row_of, is_outside, crosses}
-use Rattle.hv_unit_model.specs.EarlierUnits.{Surroundings, look_picture, in_picture}
-use Rattle.hv_unit_model.specs.MostProbableModes.{candModeList, mode_of_remaining}
+use Rattle.hv_tree_model.specs.Trees.{Prediction, Intra, Inter, Tree, Leaf, no_levels, no_units}
+use Rattle.hv_tree_model.specs.Sites.{site, address_of, column_of, row_of, is_outside, crosses}
+use Rattle.hv_tree_model.specs.EarlierUnits.{Surroundings, look_picture, in_picture}
+use Rattle.hv_tree_model.specs.MostProbableModes.{candModeList, mode_of_remaining}
 use Rattle.hv_unit_model.specs.BlockSyntax.{sao, luma_mode, mvd_coding, prediction_unit, block_levels, transform_unit, quarters, transform_tree, rooted_tree, intra_unit, inter_unit, coding_unit, coding_quadtree}
 
 -- values of bins, whatever is asked

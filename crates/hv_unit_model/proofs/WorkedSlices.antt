@@ -1,17 +1,17 @@
 -- Worked values of whole blocks and slices, and of what may be coded.
 use Rattle.std.proofs.Common.{◌≡◌, ℕ, zero, suc, Bool, true, false, List, [], ◌∷◌, ◌++◌, refl, pos, negsuc, arith}
-use Rattle.hv_types.specs.declared.bins.CtxTable.{CtxTable}
-use Rattle.hv_types.specs.declared.bins.CtxTable.TheVariants.{Split, PrevIntra, ChromaMode, CbfLuma, CbfChroma, SaoMerge, SaoType}
-use Rattle.hv_types.specs.declared.bins.SliceKind.TheVariants.{I, P}
-use Rattle.hv_types.specs.Bins.{Bin, context_bin, bypass_bin, terminate_bin}
+use Rattle.hv_tables.specs.declared.bins.CtxTable.{CtxTable}
+use Rattle.hv_tables.specs.declared.bins.CtxTable.TheVariants.{Split, PrevIntra, ChromaMode, CbfLuma, CbfChroma, SaoMerge, SaoType}
+use Rattle.hv_tables.specs.declared.bins.SliceKind.TheVariants.{I, P}
+use Rattle.hv_tables.specs.Bins.{Bin, context_bin, bypass_bin, terminate_bin}
 use Rattle.hv_plan.specs.declared.offsets.SaoKind.TheVariants.{Off, Band, Edge}
 use Rattle.hv_plan.specs.declared.offsets.SaoParam.{SaoParam}
 use Rattle.hv_residual_model.specs.Binarization.{truncated_unary_bins}
-use Rattle.hv_unit_model.specs.Trees.{Motion, Intra, Inter, Tree, Leaf, Split as SplitTree, Outside, CodingTreeUnit, no_levels, no_units}
-use Rattle.hv_unit_model.specs.Sites.{Site, site, sites, address_of, column_of, row_of, is_outside, crosses, must_split}
-use Rattle.hv_unit_model.specs.EarlierUnits.{look_picture}
-use Rattle.hv_unit_model.specs.MostProbableModes.{candModeList}
-use Rattle.hv_unit_model.specs.Validity.{AreOffsets, IsPrediction, IsValidNode, IsValidTree, AreValid}
+use Rattle.hv_tree_model.specs.Trees.{Motion, Intra, Inter, Tree, Leaf, Split as SplitTree, Outside, CodingTreeUnit, no_levels, no_units}
+use Rattle.hv_tree_model.specs.Sites.{Site, site, sites, address_of, column_of, row_of, is_outside, crosses, must_split}
+use Rattle.hv_tree_model.specs.EarlierUnits.{look_picture}
+use Rattle.hv_tree_model.specs.MostProbableModes.{candModeList}
+use Rattle.hv_tree_model.specs.Validity.{AreOffsets, IsPrediction, IsValidNode, IsValidTree, AreValid}
 use Rattle.hv_unit_model.specs.BlockSyntax.{component}
 use Rattle.hv_unit_model.specs.Bins.{sao_bins, luma_mode_bins, transform_tree_bins, quarters_bins, transform_unit_bins, predicted_bins, bins_of_node, slice_bins}
 use Rattle.hv_unit_model.proofs.TransformLemmas.{no_units_valid}

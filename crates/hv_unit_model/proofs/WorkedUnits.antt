@@ -1,18 +1,18 @@
 -- Worked values of the bins of coding quadtrees (7.3.8.4 to 7.3.8.10).
 use Rattle.std.proofs.Common.{◌≡◌, ℕ, Bool, true, false, List, [], ◌∷◌, ◌++◌, refl, replicate, ℤ, pos, negsuc, map}
-use Rattle.hv_types.specs.declared.bins.CtxTable.TheVariants.{Split, Skip, PartMode, PredMode, PrevIntra, ChromaMode, Merge, RefIdx, MvdGreater0, MvdGreater1, MvpFlag, RootCbf, CbfLuma, CbfChroma}
-use Rattle.hv_types.specs.declared.bins.SliceKind.{SliceKind}
-use Rattle.hv_types.specs.declared.bins.SliceKind.TheVariants.{P}
+use Rattle.hv_tables.specs.declared.bins.CtxTable.TheVariants.{Split, Skip, PartMode, PredMode, PrevIntra, ChromaMode, Merge, RefIdx, MvdGreater0, MvdGreater1, MvpFlag, RootCbf, CbfLuma, CbfChroma}
+use Rattle.hv_tables.specs.declared.bins.SliceKind.{SliceKind}
+use Rattle.hv_tables.specs.declared.bins.SliceKind.TheVariants.{P}
 use Rattle.hv_plan.specs.declared.prediction.Mv.{Mv}
 use Rattle.hv_plan.specs.declared.prediction.Scan.TheVariants.{Diagonal, Vertical}
 use Rattle.hv_residual_model.specs.UnitBins.{UnitBin, InBypass, unit_bin}
 use Rattle.hv_residual_model.specs.Binarization.{truncated_unary_bins, exp_golomb_bins}
 use Rattle.hv_residual_model.specs.ResidualContexts.{TransformBlock}
 use Rattle.hv_residual_model.specs.ResidualBins.{residual_bins}
-use Rattle.hv_unit_model.specs.Trees.{Motion, Prediction, Intra, Inter, TransformUnit, Tree, Leaf, no_levels, no_unit, no_units}
-use Rattle.hv_unit_model.specs.Sites.{site, address_of, column_of, row_of, is_outside, crosses}
-use Rattle.hv_unit_model.specs.EarlierUnits.{Surroundings, look_picture, in_picture}
-use Rattle.hv_unit_model.specs.MostProbableModes.{candModeList}
+use Rattle.hv_tree_model.specs.Trees.{Motion, Prediction, Intra, Inter, TransformUnit, Tree, Leaf, no_levels, no_unit, no_units}
+use Rattle.hv_tree_model.specs.Sites.{site, address_of, column_of, row_of, is_outside, crosses}
+use Rattle.hv_tree_model.specs.EarlierUnits.{Surroundings, look_picture, in_picture}
+use Rattle.hv_tree_model.specs.MostProbableModes.{candModeList}
 use Rattle.hv_unit_model.specs.Bins.{bin, luma_mode_bins, mvd_bins, prediction_unit_bins, transform_unit_bins, quarters_bins, transform_tree_bins, predicted_bins, bins_of_node}
 
 bypass_of : List Bool → List UnitBin

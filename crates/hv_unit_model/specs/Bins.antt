@@ -3,11 +3,11 @@
 use Rattle.std.specs.Prelude.{ℕ, zero, suc, ◌+◌, ◌-◌, ◌*◌, Bool, true, false, cond, nat_eq, nat_lt, List, [], ◌∷◌, ◌++◌, map, ℤ}
 use Rattle.std.specs.Int.{is_negative}
 use Rattle.std.specs.Int.RustNames.{unsigned_abs}
-use Rattle.hv_types.specs.declared.bins.CtxTable.{CtxTable}
-use Rattle.hv_types.specs.declared.bins.CtxTable.TheVariants.{Split, Skip, PartMode, PredMode, PrevIntra, ChromaMode, Merge, RefIdx, MvdGreater0, MvdGreater1, MvpFlag, RootCbf, CbfChroma, SaoMerge}
-use Rattle.hv_types.specs.declared.bins.SliceKind.{SliceKind}
-use Rattle.hv_types.specs.declared.bins.SliceKind.TheVariants.{I, P}
-use Rattle.hv_types.specs.Bins.{Bin, terminate_bin}
+use Rattle.hv_tables.specs.declared.bins.CtxTable.{CtxTable}
+use Rattle.hv_tables.specs.declared.bins.CtxTable.TheVariants.{Split, Skip, PartMode, PredMode, PrevIntra, ChromaMode, Merge, RefIdx, MvdGreater0, MvdGreater1, MvpFlag, RootCbf, CbfChroma, SaoMerge}
+use Rattle.hv_tables.specs.declared.bins.SliceKind.{SliceKind}
+use Rattle.hv_tables.specs.declared.bins.SliceKind.TheVariants.{I, P}
+use Rattle.hv_tables.specs.Bins.{Bin, terminate_bin}
 use Rattle.hv_plan.specs.declared.offsets.SaoKind.{SaoKind}
 use Rattle.hv_plan.specs.declared.offsets.SaoKind.TheVariants.{Off, Band, Edge}
 use Rattle.hv_plan.specs.declared.offsets.SaoParam.{SaoParam}
@@ -15,11 +15,12 @@ use Rattle.hv_plan.specs.declared.prediction.Mv.{Mv}
 use Rattle.hv_residual_model.specs.UnitBins.{InBypass, UnitBin, context, unit_bin, slice_bin}
 use Rattle.hv_residual_model.specs.Binarization.{bypass_at, fixed_length_bins, truncated_unary_bins, exp_golomb_bins}
 use Rattle.hv_residual_model.specs.ResidualContexts.{TransformBlock}
-use Rattle.hv_residual_model.specs.ResidualBins.{any_significant, is_significant, residual_bins, sign_bins, signs}
-use Rattle.hv_unit_model.specs.Trees.{Motion, Prediction, Intra, Inter, TransformUnit, Tree, Leaf, Split as SplitTree, Outside, CodingTreeUnit, greatest_size, log2TrafoSize, any_cb, any_cr, any_level}
-use Rattle.hv_unit_model.specs.Sites.{Site, has_left, has_above, squares, crosses}
-use Rattle.hv_unit_model.specs.EarlierUnits.{Square, after, Surroundings, in_picture, split_ctxInc}
-use Rattle.hv_unit_model.specs.MostProbableModes.{candidates, is_candidate, mpm_idx_of, remaining_of}
+use Rattle.hv_residual_model.specs.ResidualBins.{residual_bins, sign_bins, signs}
+use Rattle.hv_plan.specs.Levels.{any_significant, is_significant}
+use Rattle.hv_tree_model.specs.Trees.{Motion, Prediction, Intra, Inter, TransformUnit, Tree, Leaf, Split as SplitTree, Outside, CodingTreeUnit, greatest_size, log2TrafoSize, any_cb, any_cr, any_level}
+use Rattle.hv_tree_model.specs.Sites.{Site, has_left, has_above, squares, crosses}
+use Rattle.hv_tree_model.specs.EarlierUnits.{Square, after, Surroundings, in_picture, split_ctxInc}
+use Rattle.hv_tree_model.specs.MostProbableModes.{candidates, is_candidate, mpm_idx_of, remaining_of}
 use Rattle.hv_unit_model.specs.BlockSyntax.{sao_type_at, is_intra, transform_block, luma_flag_at, has_luma_flag}
 
 abbrev pub bin : CtxTable → ℕ → Bool → UnitBin

@@ -1,11 +1,11 @@
 -- The syntax of slice data and its coding tree units (7.3.8) as scripts of bins, in this profile:
 -- the scripts fail where a bin has a value that the profile rules out.
 use Rattle.std.specs.Prelude.{ℕ, zero, suc, ◌+◌, ◌-◌, ◌*◌, Bool, true, false, cond, nat_eq, nat_lt, ◌&&◌, ◌||◌, List, [], ◌∷◌, slice_index_or, ℤ, pos}
-use Rattle.hv_types.specs.declared.bins.CtxTable.{CtxTable}
-use Rattle.hv_types.specs.declared.bins.CtxTable.TheVariants.{Split, Skip, PartMode, PredMode, PrevIntra, ChromaMode, Merge, RefIdx, MvdGreater0, MvdGreater1, MvpFlag, RootCbf, CbfLuma, CbfChroma, SaoMerge, SaoType}
-use Rattle.hv_types.specs.declared.bins.SliceKind.{SliceKind}
-use Rattle.hv_types.specs.declared.bins.SliceKind.TheVariants.{I, P}
-use Rattle.hv_types.specs.Bins.{Question, Terminate}
+use Rattle.hv_tables.specs.declared.bins.CtxTable.{CtxTable}
+use Rattle.hv_tables.specs.declared.bins.CtxTable.TheVariants.{Split, Skip, PartMode, PredMode, PrevIntra, ChromaMode, Merge, RefIdx, MvdGreater0, MvdGreater1, MvpFlag, RootCbf, CbfLuma, CbfChroma, SaoMerge, SaoType}
+use Rattle.hv_tables.specs.declared.bins.SliceKind.{SliceKind}
+use Rattle.hv_tables.specs.declared.bins.SliceKind.TheVariants.{I, P}
+use Rattle.hv_tables.specs.Bins.{Question, Terminate}
 use Rattle.hv_plan.specs.declared.offsets.SaoKind.{SaoKind}
 use Rattle.hv_plan.specs.declared.offsets.SaoKind.TheVariants.{Off, Band, Edge}
 use Rattle.hv_plan.specs.declared.offsets.SaoComponent.{SaoComponent}
@@ -20,12 +20,13 @@ use Rattle.hv_residual_model.specs.UnitBins.{UnitQuestion, InBypass, UnitScript,
 use Rattle.hv_residual_model.specs.Binarization.{fixed_length, truncated_unary, exp_golomb, bypass_at}
 use Rattle.hv_residual_model.specs.ScanOrder.{scanIdx_of}
 use Rattle.hv_residual_model.specs.ResidualContexts.{TransformBlock}
-use Rattle.hv_residual_model.specs.ResidualSyntax.{with_sign, has_16_bits, residual_coding}
-use Rattle.hv_unit_model.specs.Trees.{Motion, Prediction, Intra, Inter, TransformUnit, Tree, Leaf, Split as SplitTree, Outside, CodingTreeUnit, greatest_size, log2TrafoSize, no_levels, no_units, any_cb, any_cr, any_level}
-use Rattle.hv_unit_model.specs.Sites.{Site, has_left, has_above, squares, is_outside, crosses}
-use Rattle.hv_unit_model.specs.EarlierUnits.{Square, after, Surroundings, in_picture, split_ctxInc}
-use Rattle.hv_unit_model.specs.MostProbableModes.{candidates, mode_of_remaining}
-use Rattle.hv_unit_model.specs.Validity.{is_empty}
+use Rattle.hv_residual_model.specs.ResidualSyntax.{with_sign, residual_coding}
+use Rattle.hv_plan.specs.Levels.{has_16_bits}
+use Rattle.hv_tree_model.specs.Trees.{Motion, Prediction, Intra, Inter, TransformUnit, Tree, Leaf, Split as SplitTree, Outside, CodingTreeUnit, greatest_size, log2TrafoSize, no_levels, no_units, any_cb, any_cr, any_level}
+use Rattle.hv_tree_model.specs.Sites.{Site, has_left, has_above, squares, is_outside, crosses}
+use Rattle.hv_tree_model.specs.EarlierUnits.{Square, after, Surroundings, in_picture, split_ctxInc}
+use Rattle.hv_tree_model.specs.MostProbableModes.{candidates, mode_of_remaining}
+use Rattle.hv_tree_model.specs.Validity.{is_empty}
 
 -- a syntax element of one bin with a context, which must have this value
 abbrev pub element : CtxTable → ℕ → Bool → UnitScript (Unit {0})

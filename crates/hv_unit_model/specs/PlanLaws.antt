@@ -1,13 +1,13 @@
 -- What is seen from a coding tree block by the plans of the blocks around it is what is seen in the
 -- picture.
 use Rattle.std.specs.Prelude.{◌≡◌, ℕ, ◌+◌, ◌-◌, ◌<◌, ◌≤◌, Bool, true, false, nat_lt, ◌&&◌, List, [], ◌∷◌, ◌++◌, length, slice_get, Option, Some, None}
-use Rattle.hv_types.specs.declared.bins.SliceKind.{SliceKind}
+use Rattle.hv_tables.specs.declared.bins.SliceKind.{SliceKind}
 use Rattle.hv_plan.specs.declared.prediction.Unit.{Unit}
-use Rattle.hv_unit_model.specs.Trees.{Tree, greatest_size}
-use Rattle.hv_unit_model.specs.Sites.{Site, site, blocks_over, ctb_column, has_left, has_above, address_of, squares}
-use Rattle.hv_unit_model.specs.EarlierUnits.{Square, squares_of, look_picture, in_picture}
+use Rattle.hv_tree_model.specs.Trees.{Tree, greatest_size}
+use Rattle.hv_tree_model.specs.Sites.{Site, site, blocks_over, ctb_column, has_left, has_above, address_of, squares}
+use Rattle.hv_tree_model.specs.EarlierUnits.{Square, squares_of, look_picture, in_picture}
 use Rattle.hv_unit_model.specs.Bins.{bins_of_node}
-use Rattle.hv_unit_model.specs.Plans.{Plan, IsPlan, tree_of, NamesItsUnits, UnitEdges, UnitsAround, look_around, in_block}
+use Rattle.hv_tree_model.specs.Plans.{Plan, IsPlan, tree_of, NamesItsUnits, UnitEdges, UnitsAround, look_around, in_block}
 
 -- ---- the blocks before
 

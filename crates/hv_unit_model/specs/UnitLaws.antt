@@ -1,16 +1,16 @@
 -- What is read of the bins of slice data is what was coded.
 use Rattle.std.specs.Prelude.{◌≡◌, ◌≢◌, ℕ, ◌+◌, ◌%◌, ◌^◌, ◌<◌, ◌≤◌, List, [], length}
-use Rattle.hv_types.specs.declared.bins.SliceKind.{SliceKind}
-use Rattle.hv_types.specs.declared.bins.SliceKind.TheVariants.{I, P}
-use Rattle.hv_types.specs.Bins.{Bin}
+use Rattle.hv_tables.specs.declared.bins.SliceKind.{SliceKind}
+use Rattle.hv_tables.specs.declared.bins.SliceKind.TheVariants.{I, P}
+use Rattle.hv_tables.specs.Bins.{Bin}
 use Rattle.hv_plan.specs.declared.offsets.SaoParam.{SaoParam}
 use Rattle.hv_stream_model.specs.Scripts.{Reads}
 use Rattle.hv_residual_model.specs.UnitBins.{UnitBin}
 use Rattle.hv_residual_model.specs.ResidualLaws.{AreAskedIn}
-use Rattle.hv_unit_model.specs.Trees.{Tree, CodingTreeUnit, greatest_size}
-use Rattle.hv_unit_model.specs.Sites.{Site, sites, address_of, column_of, row_of, squares}
-use Rattle.hv_unit_model.specs.EarlierUnits.{Square, Surroundings, squares_of}
-use Rattle.hv_unit_model.specs.Validity.{AreOffsets, HaveModes, SeesModes, IsValidNode, IsValidTree, AreValid}
+use Rattle.hv_tree_model.specs.Trees.{Tree, CodingTreeUnit, greatest_size}
+use Rattle.hv_tree_model.specs.Sites.{Site, sites, address_of, column_of, row_of, squares}
+use Rattle.hv_tree_model.specs.EarlierUnits.{Square, Surroundings, squares_of}
+use Rattle.hv_tree_model.specs.Validity.{AreOffsets, HaveModes, SeesModes, IsValidNode, IsValidTree, AreValid}
 use Rattle.hv_unit_model.specs.BlockSyntax.{sao, coding_quadtree, coding_tree_unit, slice_segment_data}
 use Rattle.hv_unit_model.specs.Bins.{sao_bins, bins_of_node, bins, slice_bins}
 

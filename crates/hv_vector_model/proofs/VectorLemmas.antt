@@ -7,9 +7,9 @@ use Rattle.std.proofs.lemmas.List.{length-map}
 use Rattle.std.proofs.lemmas.Option.{slice_get-map}
 use Rattle.hv_lemmas.proofs.ComputedLemmas.{holds_below}
 use Rattle.hv_plan.specs.declared.prediction.Unit.{Unit}
-use Rattle.hv_unit_model.specs.Sites.{Site, column_of, row_of}
-use Rattle.hv_unit_model.specs.EarlierUnits.{look_picture}
-use Rattle.hv_unit_model.specs.Plans.{Plan, UnitEdges, UnitsAround, look_around}
+use Rattle.hv_tree_model.specs.Sites.{Site, column_of, row_of}
+use Rattle.hv_tree_model.specs.EarlierUnits.{look_picture}
+use Rattle.hv_tree_model.specs.Plans.{Plan, UnitEdges, UnitsAround, look_around}
 use Rattle.hv_unit_model.specs.PlanLaws.{squares_before, unit_of_plan, AreSeen, LieAround}
 use Rattle.hv_unit_model.proofs.AroundLemmas.{blocks_around}
 use Rattle.hv_unit_model.proofs.GeometryLemmas.{place_of_address}

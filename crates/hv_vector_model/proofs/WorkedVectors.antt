@@ -4,9 +4,9 @@ use Rattle.std.proofs.Common.{◌≡◌, ℕ, List, [], ◌∷◌, refl}
 use Rattle.std.specs.Prelude.{Option, Some, None, ℤ, pos, neg_ℤ}
 use Rattle.std.specs.Int.{int_wrap}
 use Rattle.hv_plan.specs.declared.prediction.Mv.{Mv}
-use Rattle.hv_unit_model.specs.Trees.{Inter, Tree, Leaf, Split}
-use Rattle.hv_unit_model.specs.Sites.{site, address_of, column_of, row_of}
-use Rattle.hv_unit_model.specs.EarlierUnits.{look_picture}
+use Rattle.hv_tree_model.specs.Trees.{Inter, Tree, Leaf, Split}
+use Rattle.hv_tree_model.specs.Sites.{site, address_of, column_of, row_of}
+use Rattle.hv_tree_model.specs.EarlierUnits.{look_picture}
 use Rattle.hv_vector_model.specs.declared.motion.Moving.{Moving}
 use Rattle.hv_vector_model.specs.declared.motion.Neighbourhood.{Neighbourhood}
 use Rattle.hv_vector_model.specs.VectorPrediction.{Distances, cut, distance, tx, distScaleFactor, scaled_component, scaled, mvpListL0}

@@ -1,8 +1,8 @@
 -- The candidates by the plans of the blocks around are those in the picture.
 use Rattle.std.specs.Prelude.{◌≡◌, ℕ, ◌<◌, ◌≤◌, List, length, map}
-use Rattle.hv_unit_model.specs.Sites.{Site}
-use Rattle.hv_unit_model.specs.EarlierUnits.{Square, look_picture}
-use Rattle.hv_unit_model.specs.Plans.{Plan, UnitsAround, look_around}
+use Rattle.hv_tree_model.specs.Sites.{Site}
+use Rattle.hv_tree_model.specs.EarlierUnits.{Square, look_picture}
+use Rattle.hv_tree_model.specs.Plans.{Plan, UnitsAround, look_around}
 use Rattle.hv_unit_model.specs.PlanLaws.{squares_before, ArePlansBefore, LieAround}
 use Rattle.hv_vector_model.specs.Vectors.{neighbourhood_of, plan_with_vectors, around_with_vectors}
 

@@ -7,10 +7,10 @@ use Rattle.hv_plan.specs.declared.prediction.Mv.{Mv}
 use Rattle.hv_plan.specs.declared.prediction.Pred.{Pred}
 use Rattle.hv_plan.specs.declared.prediction.Pred.TheVariants.{Intra as IntraPred, Inter as InterPred}
 use Rattle.hv_plan.specs.declared.prediction.Unit.{Unit}
-use Rattle.hv_unit_model.specs.Trees.{Motion, Prediction, Intra, Inter, Tree, Leaf, Split, Outside, greatest_size}
-use Rattle.hv_unit_model.specs.Sites.{Site, column_of, row_of, squares}
-use Rattle.hv_unit_model.specs.EarlierUnits.{Square, Unavailable, Coded, after, Look, look_picture}
-use Rattle.hv_unit_model.specs.Plans.{Plan, UnitEdges, UnitsAround}
+use Rattle.hv_tree_model.specs.Trees.{Motion, Prediction, Intra, Inter, Tree, Leaf, Split, Outside, greatest_size}
+use Rattle.hv_tree_model.specs.Sites.{Site, column_of, row_of, squares}
+use Rattle.hv_tree_model.specs.EarlierUnits.{Square, Unavailable, Coded, after, Look, look_picture}
+use Rattle.hv_tree_model.specs.Plans.{Plan, UnitEdges, UnitsAround}
 use Rattle.hv_vector_model.specs.declared.motion.Moving.{Moving}
 use Rattle.hv_vector_model.specs.declared.motion.Neighbourhood.{Neighbourhood}
 use Rattle.hv_vector_model.specs.VectorPrediction.{Distances, mvpListL0, no_vector}

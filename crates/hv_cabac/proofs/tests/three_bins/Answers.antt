@@ -1,5 +1,5 @@
 use Rattle.std.proofs.Common.{[], refl}
-use Rattle.hv_types.specs.declared.bins.SliceKind.TheVariants.{P}
+use Rattle.hv_tables.specs.declared.bins.SliceKind.TheVariants.{P}
 use Rattle.hv_cabac.proofs.tests.three_bins.Goals as goal
 
 pub returns : goal.returns

@@ -1,6 +1,6 @@
 use Rattle.std.proofs.Common.{◌≡◌, ℕ, ◌-◌, ◌<◌, ◌≤◌, sym, ◌∙◌, arith}
-use Rattle.hv_unit_model.specs.Sites.{address_of, column_of, row_of}
-use Rattle.hv_unit_model.specs.Plans.{in_block}
+use Rattle.hv_tree_model.specs.Sites.{address_of, column_of, row_of}
+use Rattle.hv_tree_model.specs.Plans.{in_block}
 use Rattle.hv_unit_model.proofs.GeometryLemmas.{place_of_address}
 use Rattle.hv_syntax.specs.Neighbours.{lists_of_plan, around_of}
 use Rattle.hv_mode.proofs.NodeCostLemmas.{node_in_block, ends_there, names_there, counted_here}

@@ -1,7 +1,7 @@
 use Rattle.std.proofs.Common.{length, sym, ap, arith}
 use Rattle.hv_mode.specs.Nodes.{given_of, leaf_choice}
 use Rattle.hv_mode_model.specs.ModeDecision.{leaf}
-use Rattle.hv_unit_model.specs.Trees.{Intra}
+use Rattle.hv_tree_model.specs.Trees.{Intra}
 use Rattle.hv_mode.proofs.LeafLemmas.{decides_leaf}
 use Rattle.hv_mode.proofs.leaf.decide_leaf.Goals as goal
 

@@ -1,5 +1,5 @@
 use Rattle.std.proofs.Common.{ℕ, ◌≤◌, List, sym, ap, ap₂, subst, ◌∙◌}
-use Rattle.hv_unit_model.specs.MostProbableModes.{candidates}
+use Rattle.hv_tree_model.specs.MostProbableModes.{candidates}
 use Rattle.hv_mode.specs.LumaModes.{mode_of_block}
 use Rattle.hv_mode.specs.Nodes.{given_of}
 use Rattle.hv_mode.proofs.ModeLemmas.{mode_most}

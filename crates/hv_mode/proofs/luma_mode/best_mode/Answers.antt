@@ -1,6 +1,6 @@
 use Rattle.std.proofs.Common.{◌≡◌, ℕ, ◌+◌, sym, ap, ◌∙◌, arith}
 use Rattle.hv_lemmas.specs.Lists.{tabulate}
-use Rattle.hv_unit_model.specs.MostProbableModes.{planar}
+use Rattle.hv_tree_model.specs.MostProbableModes.{planar}
 use Rattle.hv_filter_model.specs.Costs.{first_least}
 use Rattle.hv_mode.specs.LumaModes.{mode_score, further_count, further_mode}
 use Rattle.hv_mode.proofs.ScoreLemmas.{no_modes, one_mode_more, modes_are, best_more}

@@ -1,7 +1,7 @@
 -- The block is decided by the edges of the blocks around it, and the others stay.
 use Rattle.std.proofs.Common.{refl, subst}
 use Rattle.hv_block.specs.declared.edges.Neighbours.{Neighbours}
-use Rattle.hv_unit_model.specs.Sites.{site}
+use Rattle.hv_tree_model.specs.Sites.{site}
 use Rattle.hv_mode.specs.Pictures.{task_of, IsChosen}
 use Rattle.hv_mode.proofs.PictureLemmas.{is_chosen}
 use Rattle.hv_mode.proofs.picture.decide_block.Goals as goal

@@ -1,6 +1,6 @@
 -- One block more is chosen by each call, and in the end all are.
 use Rattle.std.proofs.Common.{◌≡◌, ◌*◌, ◌<◌, ◌∙◌, refl, ap₂, length, arith}
-use Rattle.hv_unit_model.specs.Sites.{blocks_over}
+use Rattle.hv_tree_model.specs.Sites.{blocks_over}
 use Rattle.hv_mode.specs.Pictures.{task_of, AreChosen}
 use Rattle.hv_mode.proofs.PictureLemmas.{blocks_counted, one_more_chosen, all_named, trees_are, decoded_are}
 use Rattle.hv_mode.proofs.picture.decide_blocks.Goals as goal

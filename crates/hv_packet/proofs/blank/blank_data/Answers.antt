@@ -3,7 +3,7 @@ use Rattle.std.proofs.Common.{◌≡◌, ◌∙◌, [], sym, ap, subst, arith}
 use Rattle.std.proofs.lemmas.Result.{IfOk-weaker}
 use Rattle.hv_stream_model.specs.Bits.{bytes_of}
 use Rattle.hv_entropy_model.specs.CodeWord.{word, IsEnded}
-use Rattle.hv_unit_model.specs.Sites.{sites}
+use Rattle.hv_tree_model.specs.Sites.{sites}
 use Rattle.hv_slice_model.specs.BlankUnits.{blank_units}
 use Rattle.hv_packet.specs.BlankBins.{picture_bins}
 use Rattle.hv_packet.proofs.BlankBinLemmas.{picture_bins_defined}

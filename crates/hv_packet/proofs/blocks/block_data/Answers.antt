@@ -1,6 +1,6 @@
 -- The encoder stands for the bins of all blocks, of which the last one ends the slice.
 use Rattle.std.proofs.Common.{[], arith}
-use Rattle.hv_unit_model.specs.Sites.{sites}
+use Rattle.hv_tree_model.specs.Sites.{sites}
 use Rattle.hv_unit_model.specs.Bins.{slice_bins}
 use Rattle.hv_slice_model.specs.PlannedUnits.{planned_units}
 use Rattle.hv_packet.specs.BlockPlans.{plans_of}

@@ -3,11 +3,11 @@ use Rattle.std.proofs.Common.{◌≡◌, ◌∙◌, List, take, ap, subst, sym, 
 use Rattle.std.specs.Prelude.{slice_get, Some, option_map}
 use Rattle.std.proofs.lemmas.List.{length-map}
 use Rattle.std.proofs.lemmas.Option.{slice_get-map, slice_get_within}
-use Rattle.hv_types.specs.Bins.{Bin, Puts}
-use Rattle.hv_unit_model.specs.Trees.{CodingTreeUnit}
+use Rattle.hv_tables.specs.Bins.{Bin, Puts}
+use Rattle.hv_tree_model.specs.Trees.{CodingTreeUnit}
 use Rattle.hv_block.specs.declared.edges.Neighbours.{Neighbours}
-use Rattle.hv_unit_model.specs.Sites.{site, blocks_over}
-use Rattle.hv_unit_model.specs.Plans.{tree_of}
+use Rattle.hv_tree_model.specs.Sites.{site, blocks_over}
+use Rattle.hv_tree_model.specs.Plans.{tree_of}
 use Rattle.hv_unit_model.specs.PlanLaws.{LieAround}
 use Rattle.hv_syntax.specs.Neighbours.{around_of}
 use Rattle.hv_syntax.proofs.PictureLemmas.{lies_around}

@@ -2,8 +2,8 @@
 use Rattle.std.proofs.Common.{◌≡◌, ◌*◌, ◌<◌, ◌∙◌, ap, ap₂, subst, arith, length}
 use Rattle.std.specs.Prelude.{slice_get, Some, option_map}
 use Rattle.std.proofs.lemmas.Option.{slice_get-map, slice_get-get_or}
-use Rattle.hv_types.specs.Bins.{Puts}
-use Rattle.hv_unit_model.specs.Sites.{blocks_over}
+use Rattle.hv_tables.specs.Bins.{Puts}
+use Rattle.hv_tree_model.specs.Sites.{blocks_over}
 use Rattle.hv_packet.specs.BlockPlans.{plan_of, plans_of}
 use Rattle.hv_packet.proofs.PuttingLemmas.{leaves_less, leaves_nothing}
 use Rattle.hv_packet.proofs.SliceBinLemmas.{blocks_counted}

@@ -4,8 +4,8 @@ use Rattle.std.specs.Prelude.{◌++◌, List, ℕ, length}
 use Rattle.hv_stream_model.specs.Bits.{bytes_of}
 use Rattle.hv_stream_model.specs.Fields.{aligned, bits_of_fields}
 use Rattle.hv_stream_model.specs.Units.{last_of}
-use Rattle.hv_unit_model.specs.Trees.{CodingTreeUnit}
-use Rattle.hv_unit_model.specs.Sites.{Site}
+use Rattle.hv_tree_model.specs.Trees.{CodingTreeUnit}
+use Rattle.hv_tree_model.specs.Sites.{Site}
 use Rattle.hv_slice_model.specs.Slices.{header_fields, header_in, word_behind, payload_of_slice}
 use Rattle.hv_packet.proofs.HeaderLemmas.{fields_in}
 use Rattle.hv_packet.proofs.slice.slice_payload.Goals as goal

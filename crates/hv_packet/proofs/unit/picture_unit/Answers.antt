@@ -2,8 +2,8 @@
 use Rattle.std.proofs.Common.{◌≡◌, ◌∙◌, List, length, sym, ap}
 use Rattle.std.proofs.lemmas.Result.{IfOk-weaker}
 use Rattle.hv_stream_model.specs.Bits.{bytes_of}
-use Rattle.hv_unit_model.specs.Trees.{CodingTreeUnit}
-use Rattle.hv_unit_model.specs.Sites.{Site}
+use Rattle.hv_tree_model.specs.Trees.{CodingTreeUnit}
+use Rattle.hv_tree_model.specs.Sites.{Site}
 use Rattle.hv_slice_model.specs.Slices.{header_in, picture_sites, word_behind}
 use Rattle.hv_stream_model.specs.Units.{last_of}
 use Rattle.hv_slice_model.specs.BlankUnits.{blank_units}

@@ -1,7 +1,7 @@
 use Rattle.std.proofs.Common.{◌≡◌, ◌+◌, ◌-◌, ◌*◌, ◌%◌, ◌≤◌, take, length, refl, sym, ap, subst, ◌∙◌, arith}
 use Rattle.std.specs.Prelude.{slice_get}
-use Rattle.hv_unit_model.specs.Trees.{side}
-use Rattle.hv_unit_model.specs.Sites.{squares, x0, y0}
+use Rattle.hv_tree_model.specs.Trees.{side}
+use Rattle.hv_tree_model.specs.Sites.{squares, x0, y0}
 use Rattle.hv_recon.specs.Leaves.{DecodesLeaf, KeepsOtherSamples}
 use Rattle.hv_recon.proofs.UnitLemmas.{UnitInPicture}
 use Rattle.hv_recon.proofs.LeafLemmas.{intra_unit, small_leaf, unit_keeps}

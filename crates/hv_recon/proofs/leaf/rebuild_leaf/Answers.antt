@@ -1,6 +1,6 @@
 use Rattle.std.proofs.Common.{◌≡◌, ◌%◌, ap, sym, subst, ◌∙◌, arith}
 use Rattle.std.specs.Prelude.{slice_get}
-use Rattle.hv_unit_model.specs.Sites.{squares}
+use Rattle.hv_tree_model.specs.Sites.{squares}
 use Rattle.hv_recon.specs.Leaves.{DecodesLeaf, KeepsOtherSamples}
 use Rattle.hv_recon.proofs.UnitLemmas.{UnitInPicture}
 use Rattle.hv_recon.proofs.LeafLemmas.{small_leaf, unit_keeps, unit_there, pred_there}

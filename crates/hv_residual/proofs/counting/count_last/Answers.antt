@@ -1,5 +1,5 @@
 use Rattle.std.proofs.Common.{◌+◌, ◌*◌, arith}
-use Rattle.hv_types.specs.declared.bins.CtxTable.TheVariants.{LastX, LastY}
+use Rattle.hv_tables.specs.declared.bins.CtxTable.TheVariants.{LastX, LastY}
 use Rattle.hv_residual_model.specs.ResidualContexts.{last_prefix_at}
 use Rattle.hv_residual.specs.Blocks.{block_of, corner_of}
 use Rattle.hv_residual.proofs.CountLemmas.{last_count}

@@ -1,7 +1,7 @@
 use Rattle.std.proofs.Common.{◌≡◌, ◌∙◌, get_or, pos, rules, arith}
 use Rattle.std.specs.Int.RustNames.{unsigned_abs}
 use Rattle.hv_lemmas.proofs.BooleanLemmas.{one_at_most, one_of}
-use Rattle.hv_residual_model.specs.ResidualBins.{is_significant}
+use Rattle.hv_plan.specs.Levels.{is_significant}
 use Rattle.hv_residual.proofs.SmallLevelLemmas.{small_level_count, one_small, small_step, small_end}
 use Rattle.hv_residual.proofs.counting.count_small_levels.Goals as goal
 

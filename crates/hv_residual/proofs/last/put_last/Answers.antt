@@ -1,6 +1,6 @@
 use Rattle.std.proofs.Common.{◌+◌, ◌*◌}
 use Rattle.hv_residual_model.specs.UnitBins.{PutsUnit}
-use Rattle.hv_types.specs.declared.bins.CtxTable.TheVariants.{LastX, LastY}
+use Rattle.hv_tables.specs.declared.bins.CtxTable.TheVariants.{LastX, LastY}
 use Rattle.hv_residual_model.specs.ResidualBins.{last_prefix_bins}
 use Rattle.hv_residual.specs.Blocks.{block_of, corner_of}
 use Rattle.hv_residual.proofs.PuttingLemmas.{puts_both, puts_same}

@@ -1,5 +1,5 @@
 use Rattle.std.proofs.Common.{◌≡◌, drop}
-use Rattle.hv_residual_model.specs.ResidualBins.{any_significant}
+use Rattle.hv_plan.specs.Levels.{any_significant}
 use Rattle.hv_residual.proofs.significance.any_significant.Given as goal
 
 abbrev pub invariant-loop-level : goal.invariant-loop-level

@@ -1,7 +1,8 @@
 use Rattle.std.proofs.Common.{◌≡◌, ◌∙◌, ap, sym, arith, get_or, pos, rules, List, ℕ, take, length}
 use Rattle.std.specs.Int.{is_negative}
 use Rattle.std.specs.Int.RustNames.{unsigned_abs}
-use Rattle.hv_residual_model.specs.ResidualBins.{is_significant, magnitudes}
+use Rattle.hv_residual_model.specs.ResidualBins.{magnitudes}
+use Rattle.hv_plan.specs.Levels.{is_significant}
 use Rattle.std.proofs.lemmas.List.{length-set, length-take-le}
 use Rattle.hv_lemmas.proofs.BooleanLemmas.{one_at_most, one_of}
 use Rattle.hv_residual.proofs.SignificanceLemmas.{magnitude_step, sign_step, no_magnitude}

@@ -1,5 +1,5 @@
 use Rattle.std.proofs.Common.{◌≡◌, ◌-◌, arith, get_or, pos, rules}
-use Rattle.hv_residual_model.specs.ResidualBins.{is_significant}
+use Rattle.hv_plan.specs.Levels.{is_significant}
 use Rattle.hv_residual.specs.Blocks.{block_of, spot_of}
 use Rattle.hv_residual.specs.Levels.{sig_question, one_sig_bins}
 use Rattle.hv_residual.proofs.PuttingLemmas.{going_by, going_done}

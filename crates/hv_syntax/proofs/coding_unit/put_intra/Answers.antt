@@ -1,6 +1,6 @@
 use Rattle.std.proofs.Common.{ℕ, sym, subst}
 use Rattle.hv_residual_model.specs.UnitBins.{PutsUnit}
-use Rattle.hv_unit_model.specs.Trees.{Intra}
+use Rattle.hv_tree_model.specs.Trees.{Intra}
 use Rattle.hv_unit_model.specs.Bins.{transform_tree_bins}
 use Rattle.hv_syntax.specs.Levels.{units_of}
 use Rattle.hv_syntax.proofs.PartLemmas.{puts_intra}

@@ -1,5 +1,5 @@
 use Rattle.std.proofs.Common.{◌≡◌, ℕ, length, subst, sym, arith}
-use Rattle.hv_unit_model.specs.Trees.{Intra}
+use Rattle.hv_tree_model.specs.Trees.{Intra}
 use Rattle.hv_unit_model.specs.Bins.{transform_tree_bins}
 use Rattle.hv_syntax.specs.Levels.{units_of}
 use Rattle.hv_syntax.proofs.CountLemmas.{length_intra}

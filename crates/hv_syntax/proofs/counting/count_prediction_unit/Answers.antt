@@ -1,5 +1,5 @@
 use Rattle.std.proofs.Common.{arith}
-use Rattle.hv_unit_model.specs.Trees.{Motion}
+use Rattle.hv_tree_model.specs.Trees.{Motion}
 use Rattle.hv_syntax.proofs.CountLemmas.{length_prediction_unit}
 use Rattle.hv_syntax.proofs.counting.count_prediction_unit.Goals as goal
 

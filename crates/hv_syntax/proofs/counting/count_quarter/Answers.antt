@@ -1,5 +1,5 @@
 use Rattle.std.proofs.Common.{◌≡◌, ℕ, length, subst, arith}
-use Rattle.hv_unit_model.specs.Plans.{prediction_of}
+use Rattle.hv_tree_model.specs.Plans.{prediction_of}
 use Rattle.hv_unit_model.specs.Bins.{transform_unit_bins}
 use Rattle.hv_syntax.specs.Levels.{unit_of}
 use Rattle.hv_syntax.proofs.CountLemmas.{length_quarter}

@@ -1,5 +1,5 @@
 use Rattle.std.proofs.Common.{arith}
-use Rattle.hv_unit_model.specs.Plans.{prediction_of}
+use Rattle.hv_tree_model.specs.Plans.{prediction_of}
 use Rattle.hv_syntax.specs.Levels.{unit_of}
 use Rattle.hv_syntax.proofs.CountLemmas.{length_single}
 use Rattle.hv_syntax.proofs.counting.count_single.Goals as goal

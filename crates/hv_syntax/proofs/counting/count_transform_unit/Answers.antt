@@ -1,6 +1,6 @@
 use Rattle.std.proofs.Common.{◌≡◌, ℕ, Bool, cond, ap, ◌∙◌, arith}
-use Rattle.hv_residual_model.specs.ResidualBins.{any_significant}
-use Rattle.hv_unit_model.specs.Plans.{prediction_of}
+use Rattle.hv_plan.specs.Levels.{any_significant}
+use Rattle.hv_tree_model.specs.Plans.{prediction_of}
 use Rattle.hv_unit_model.specs.BlockSyntax.{has_luma_flag}
 use Rattle.hv_syntax.specs.Levels.{unit_of}
 use Rattle.hv_syntax.proofs.CountLemmas.{length_transform_unit}

@@ -5,7 +5,7 @@ use Rattle.hv_syntax.proofs.NodeLemmas.{size_of_split, children}
 use Rattle.hv_syntax.proofs.QuadtreeLemmas.{puts_split}
 use Rattle.hv_syntax.proofs.CountedLemmas.{counts, puts_count, count_put, count_outside, count_node_of_leaf}
 use Rattle.hv_syntax.proofs.counting_tree.+count_node_of.Goals as goal
-use Rattle.hv_unit_model.proofs.NodeLemmas.{squares_above_0}
+use Rattle.hv_tree_model.proofs.NodeLemmas.{squares_above_0}
 
 pub returns-then-is_outside-clause-value : goal.returns-then-is_outside-clause-value
 returns-then-is_outside-clause-value t c = λ s earlier sees shows.

@@ -1,6 +1,6 @@
 use Rattle.std.proofs.Common.{false}
-use Rattle.hv_unit_model.specs.Trees.{log2TrafoSize, transform_units}
-use Rattle.hv_unit_model.specs.Plans.{prediction_of, transform_units_at}
+use Rattle.hv_tree_model.specs.Trees.{log2TrafoSize, transform_units}
+use Rattle.hv_tree_model.specs.Plans.{prediction_of, transform_units_at}
 use Rattle.hv_syntax.specs.Levels.{units_of}
 use Rattle.hv_syntax.specs.Blocks.{plan_of}
 use Rattle.hv_syntax.proofs.CountedLemmas.{count_leaf_bins}

@@ -1,8 +1,8 @@
 use Rattle.std.proofs.Common.{◌∷◌, [], false, ℕ, subst, ◌∙◌}
-use Rattle.hv_types.specs.declared.bins.CtxTable.TheVariants.{PrevIntra}
+use Rattle.hv_tables.specs.declared.bins.CtxTable.TheVariants.{PrevIntra}
 use Rattle.hv_residual_model.specs.UnitBins.{PutsUnit}
 use Rattle.hv_residual_model.specs.Binarization.{fixed_length_bins}
-use Rattle.hv_unit_model.specs.MostProbableModes.{remaining_of}
+use Rattle.hv_tree_model.specs.MostProbableModes.{remaining_of}
 use Rattle.hv_unit_model.specs.Bins.{bin}
 use Rattle.hv_residual.proofs.PuttingLemmas.{puts_both, puts_same}
 use Rattle.hv_syntax.proofs.ModeLemmas.{first_bins, second_bins, third_bins, other_bins}

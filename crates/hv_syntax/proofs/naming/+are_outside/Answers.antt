@@ -1,5 +1,5 @@
 use Rattle.std.proofs.Common.{◌≡◌, true, sym, ◌∙◌}
-use Rattle.hv_unit_model.specs.Sites.{is_outside}
+use Rattle.hv_tree_model.specs.Sites.{is_outside}
 use Rattle.hv_syntax.proofs.NamingLemmas.{each_from, others_of}
 use Rattle.hv_syntax.proofs.naming.+are_outside.Goals as goal
 

@@ -1,5 +1,5 @@
 use Rattle.std.proofs.Common.{◌∷◌, [], true, false}
-use Rattle.hv_types.specs.declared.bins.CtxTable.TheVariants.{SaoType}
+use Rattle.hv_tables.specs.declared.bins.CtxTable.TheVariants.{SaoType}
 use Rattle.hv_residual_model.specs.UnitBins.{InBypass, unit_bin}
 use Rattle.hv_residual_model.specs.Binarization.{truncated_unary_bins}
 use Rattle.hv_unit_model.specs.Bins.{bin}

@@ -1,4 +1,4 @@
-use Rattle.hv_unit_model.specs.Plans.{prediction_of}
+use Rattle.hv_tree_model.specs.Plans.{prediction_of}
 use Rattle.hv_syntax.specs.Levels.{unit_of}
 use Rattle.hv_syntax.proofs.PartLemmas.{puts_single}
 use Rattle.hv_syntax.proofs.transform.put_single.Goals as goal

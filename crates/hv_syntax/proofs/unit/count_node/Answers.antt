@@ -1,5 +1,5 @@
 use Rattle.std.proofs.Common.{◌-◌, arith}
-use Rattle.hv_unit_model.specs.Sites.{address_of}
+use Rattle.hv_tree_model.specs.Sites.{address_of}
 use Rattle.hv_syntax.specs.declared.block.Block.{Block}
 use Rattle.hv_syntax.specs.Neighbours.{lists_of_plan, around_of}
 use Rattle.hv_syntax.proofs.UnitLemmas.{count_at}

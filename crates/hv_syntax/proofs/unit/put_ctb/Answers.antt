@@ -1,6 +1,6 @@
 use Rattle.std.proofs.Common.{subst}
-use Rattle.hv_types.specs.Bins.{Puts}
-use Rattle.hv_unit_model.specs.Plans.{Plan, tree_of, in_block}
+use Rattle.hv_tables.specs.Bins.{Puts}
+use Rattle.hv_tree_model.specs.Plans.{Plan, tree_of, in_block}
 use Rattle.hv_unit_model.specs.Bins.{bins}
 use Rattle.hv_syntax.specs.declared.block.Block.{Block}
 use Rattle.hv_syntax.specs.Neighbours.{around_of}

@@ -1,5 +1,5 @@
 use Rattle.std.proofs.Common.{◌≡◌, ap, sym}
-use Rattle.hv_types.specs.declared.bins.SliceKind.TheVariants.{I, P}
+use Rattle.hv_tables.specs.declared.bins.SliceKind.TheVariants.{I, P}
 use Rattle.hv_tables.specs.ContextTables.{values_of_kind}
 use Rattle.hv_tables.proofs.contexts.init_values.Goals as goal
 

@@ -1,6 +1,6 @@
 use Rattle.std.proofs.Common.{◌≡◌, ℕ, refl, ap, ◌∙◌}
 use Rattle.std.specs.Prelude.{slice_index_or}
-use Rattle.hv_types.specs.Bins.{Context}
+use Rattle.hv_tables.specs.Bins.{Context}
 use Rattle.hv_entropy_model.specs.Contexts.{ContextVariable, variable_at, lps_width, no_variable}
 use Rattle.hv_cabac.specs.Variables.{variable_of}
 use Rattle.hv_cabac.specs.VariableStates.{variables_of}

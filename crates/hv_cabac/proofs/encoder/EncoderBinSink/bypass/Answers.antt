@@ -1,5 +1,5 @@
 use Rattle.std.proofs.Common.{refl}
-use Rattle.hv_types.specs.Bins.{Bypass}
+use Rattle.hv_tables.specs.Bins.{Bypass}
 use Rattle.hv_cabac.proofs.StandingLemmas.{stands_more}
 use Rattle.hv_cabac.proofs.encoder.EncoderBinSink.bypass.Goals as goal
 

@@ -1,13 +1,13 @@
 -- A coding tree block as the encoder keeps it: flat lists, the coding quadtree that they stand for,
 -- and what is seen of the blocks around it.
 use Rattle.std.specs.Prelude.{◌≡◌, ℕ, zero, suc, ◌+◌, ◌-◌, ◌*◌, ◌^◌, ◌<◌, Bool, false, cond, nat_eq, nat_lt, nat_le, ◌&&◌, List, [], ◌∷◌, length, take, drop, slice_get, slice_index_or, Option, Some, None, ℤ}
-use Rattle.hv_types.specs.declared.bins.SliceKind.{SliceKind}
+use Rattle.hv_tables.specs.declared.bins.SliceKind.{SliceKind}
 use Rattle.hv_plan.specs.declared.prediction.Pred.{Pred}
 use Rattle.hv_plan.specs.declared.prediction.Pred.TheVariants.{Intra as IntraPred, Inter as InterPred}
 use Rattle.hv_plan.specs.declared.prediction.Unit.{Unit}
-use Rattle.hv_unit_model.specs.Trees.{Prediction, Intra, Inter, TransformUnit, Tree, Leaf, Split, Outside, depth_of, greatest_size, log2TrafoSize, transform_units}
-use Rattle.hv_unit_model.specs.Sites.{Site, ctb_column, ctb_row, address_of, squares, is_outside}
-use Rattle.hv_unit_model.specs.EarlierUnits.{Square, Unavailable, Coded, squares_of, Look, Surroundings}
+use Rattle.hv_tree_model.specs.Trees.{Prediction, Intra, Inter, TransformUnit, Tree, Leaf, Split, Outside, depth_of, greatest_size, log2TrafoSize, transform_units}
+use Rattle.hv_tree_model.specs.Sites.{Site, ctb_column, ctb_row, address_of, squares, is_outside}
+use Rattle.hv_tree_model.specs.EarlierUnits.{Square, Unavailable, Coded, squares_of, Look, Surroundings}
 
 -- ---- plans
 

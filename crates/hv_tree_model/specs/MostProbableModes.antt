@@ -1,8 +1,8 @@
 -- The luma mode of intra prediction, from the modes at the left and above (8.4.2).
 use Rattle.std.specs.Prelude.{ℕ, suc, ◌+◌, ◌-◌, ◌%◌, Bool, false, cond, not, nat_eq, nat_lt, nat_le, ◌||◌, List, [], ◌∷◌}
-use Rattle.hv_unit_model.specs.Trees.{Intra, Inter}
-use Rattle.hv_unit_model.specs.Sites.{row_of}
-use Rattle.hv_unit_model.specs.EarlierUnits.{Square, Unavailable, Coded, Surroundings, left_of, above_of}
+use Rattle.hv_tree_model.specs.Trees.{Intra, Inter}
+use Rattle.hv_tree_model.specs.Sites.{row_of}
+use Rattle.hv_tree_model.specs.EarlierUnits.{Square, Unavailable, Coded, Surroundings, left_of, above_of}
 
 -- INTRA_PLANAR, INTRA_DC, and INTRA_ANGULAR26, which is vertical
 abbrev pub planar : ℕ

@@ -1,7 +1,7 @@
 -- Bins (9.3): what is asked of the arithmetic decoder, and its answer.
 use Rattle.std.specs.Prelude.{Bool, ℕ, List, ◌++◌}
-use Rattle.hv_types.specs.declared.bins.Ctx.{Ctx}
-use Rattle.hv_types.specs.declared.bins.SliceKind.{SliceKind}
+use Rattle.hv_tables.specs.declared.bins.Ctx.{Ctx}
+use Rattle.hv_tables.specs.declared.bins.SliceKind.{SliceKind}
 
 -- a bin is decoded with a context (9.3.4.3.2), in bypass (9.3.4.3.4), or before terminate
 -- (9.3.4.3.5)

@@ -1,7 +1,7 @@
 -- Where the coding tree blocks of a picture lie, and the nodes of their quadtrees.
 use Rattle.std.specs.Prelude.{ℕ, zero, suc, ◌+◌, ◌-◌, ◌*◌, ◌/◌, ◌%◌, Bool, false, nat_lt, nat_le, ◌||◌, List, [], ◌∷◌}
 use Rattle.hv_plan.specs.declared.place.Place.{Place}
-use Rattle.hv_unit_model.specs.Trees.{side}
+use Rattle.hv_tree_model.specs.Trees.{side}
 
 -- ---- the coding tree blocks of a picture, in raster order (6.5.1)
 

@@ -67,8 +67,8 @@ pub struct Ctx {
 /// of a slice of some kind and quantiser: a sink may have these from its start, and keeps them.
 pub trait BinSink {
     ghost use Rattle.std.specs.Prelude.{List, [], ◌∷◌, ℕ};
-    ghost use Rattle.hv_types.specs.declared.bins.SliceKind.{SliceKind};
-    ghost use Rattle.hv_types.specs.Bins.{Bin, Puts, context_bin, bypass_bin, terminate_bin};
+    ghost use Rattle.hv_tables.specs.declared.bins.SliceKind.{SliceKind};
+    ghost use Rattle.hv_tables.specs.Bins.{Bin, Puts, context_bin, bypass_bin, terminate_bin};
 
     /// That it stands for these bins, in their order, of a slice of this kind and quantiser.
     ghost stands_for: { Self → SliceKind → ℕ → List Bin → Type 0 };

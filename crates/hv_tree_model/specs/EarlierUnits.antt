@@ -1,9 +1,9 @@
 -- What was coded earlier, and what is asked of it: which squares are available (6.4.1), and the
 -- contexts of split_cu_flag (9.3.4.2.2).
 use Rattle.std.specs.Prelude.{ℕ, zero, suc, ◌+◌, ◌-◌, ◌*◌, ◌/◌, ◌%◌, cond, nat_lt, nat_le, ◌&&◌, List, [], ◌++◌, replicate, slice_index_or}
-use Rattle.hv_types.specs.declared.bins.SliceKind.{SliceKind}
-use Rattle.hv_unit_model.specs.Trees.{Prediction, Tree, Leaf, Split, Outside, depth_of}
-use Rattle.hv_unit_model.specs.Sites.{Site, blocks_over, ctb_column, ctb_row, address_of, column_of, row_of, squares}
+use Rattle.hv_tables.specs.declared.bins.SliceKind.{SliceKind}
+use Rattle.hv_tree_model.specs.Trees.{Prediction, Tree, Leaf, Split, Outside, depth_of}
+use Rattle.hv_tree_model.specs.Sites.{Site, blocks_over, ctb_column, ctb_row, address_of, column_of, row_of, squares}
 
 -- ---- squares of 8x8 luma samples in decoding order
 

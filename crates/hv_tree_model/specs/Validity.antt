@@ -1,16 +1,16 @@
 -- Which trees and offsets may be coded at a place.
 use Rattle.std.specs.Prelude.{◌≡◌, ℕ, zero, suc, ◌-◌, ◌+◌, ◌*◌, ◌^◌, ◌<◌, ◌≤◌, Bool, true, false, nat_eq, ◌&&◌, List, [], ◌∷◌, length, ℤ, pos, negsuc, int_le}
 use Rattle.std.specs.List.{list_all}
-use Rattle.hv_types.specs.declared.bins.SliceKind.{SliceKind}
-use Rattle.hv_types.specs.declared.bins.SliceKind.TheVariants.{I, P}
+use Rattle.hv_tables.specs.declared.bins.SliceKind.{SliceKind}
+use Rattle.hv_tables.specs.declared.bins.SliceKind.TheVariants.{I, P}
 use Rattle.hv_plan.specs.declared.offsets.SaoKind.{SaoKind}
 use Rattle.hv_plan.specs.declared.offsets.SaoKind.TheVariants.{Off, Band, Edge}
 use Rattle.hv_plan.specs.declared.offsets.SaoComponent.{SaoComponent}
 use Rattle.hv_plan.specs.declared.offsets.SaoParam.{SaoParam}
-use Rattle.hv_residual_model.specs.ResidualSyntax.{has_16_bits}
-use Rattle.hv_unit_model.specs.Trees.{Motion, Prediction, Intra, Inter, TransformUnit, Tree, Leaf, Split, Outside, CodingTreeUnit, log2TrafoSize, transform_units, greatest_size}
-use Rattle.hv_unit_model.specs.Sites.{Site, squares, is_outside, must_split}
-use Rattle.hv_unit_model.specs.EarlierUnits.{Square, Unavailable, Coded, Look}
+use Rattle.hv_plan.specs.Levels.{has_16_bits}
+use Rattle.hv_tree_model.specs.Trees.{Motion, Prediction, Intra, Inter, TransformUnit, Tree, Leaf, Split, Outside, CodingTreeUnit, log2TrafoSize, transform_units, greatest_size}
+use Rattle.hv_tree_model.specs.Sites.{Site, squares, is_outside, must_split}
+use Rattle.hv_tree_model.specs.EarlierUnits.{Square, Unavailable, Coded, Look}
 
 -- ---- sample adaptive offsets (7.4.9.3)
 

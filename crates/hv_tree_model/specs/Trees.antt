@@ -3,7 +3,7 @@
 use Rattle.std.specs.Prelude.{ℕ, ◌+◌, ◌-◌, ◌*◌, ◌^◌, Bool, false, cond, nat_lt, ◌||◌, min, List, [], ◌∷◌, replicate, ℤ, pos}
 use Rattle.hv_plan.specs.declared.offsets.SaoParam.{SaoParam}
 use Rattle.hv_plan.specs.declared.prediction.Mv.{Mv}
-use Rattle.hv_residual_model.specs.ResidualBins.{any_significant}
+use Rattle.hv_plan.specs.Levels.{any_significant}
 
 -- what is coded of how a unit is predicted from another picture (7.3.8.6): its vector isn't
 pub record Motion : Type 0 where

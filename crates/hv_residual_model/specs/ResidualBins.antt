@@ -4,7 +4,7 @@ use Rattle.std.specs.Int.{is_negative}
 use Rattle.std.specs.Int.RustNames.{unsigned_abs}
 use Rattle.hv_tables.specs.declared.bins.CtxTable.{CtxTable}
 use Rattle.hv_tables.specs.declared.bins.CtxTable.TheVariants.{LastX, LastY}
-use Rattle.hv_plan.specs.Levels.{is_significant}
+use Rattle.hv_plan.specs.Levels.{is_significant, any_significant}
 use Rattle.hv_residual_model.specs.UnitBins.{UnitQuestion, InBypass, UnitBin, unit_bin}
 use Rattle.hv_residual_model.specs.Binarization.{fixed_length_bins, truncated_unary_bins, remaining_bins}
 use Rattle.hv_residual_model.specs.ScanOrder.{block_position}

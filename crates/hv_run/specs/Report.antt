@@ -4,7 +4,7 @@ use Rattle.hv_types.specs.declared.settings.Settings.{Settings}
 use Rattle.hv_types.specs.declared.settings.ConfigError.{ConfigError}
 use Rattle.hv_types.specs.declared.picture.Picture.{Picture}
 use Rattle.hv_types.specs.Outside.{Rises}
-use Rattle.hv_model.specs.Encoding.{output}
+use Rattle.hv_model.specs.IntraPictures.{output}
 use Rattle.hv_words.specs.declared.refusal.WordsError.{WordsError}
 use Rattle.hv_words.specs.declared.refusal.WordsError.TheVariants as words
 use Rattle.hv_words.specs.Answers.{IsLine}

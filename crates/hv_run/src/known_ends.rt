@@ -2,7 +2,7 @@
 
 ghost use Rattle.std.specs.Prelude.{◌≡◌, ◌≢◌, ◌++◌, []};
 ghost use Rattle.hv_types.specs.declared.settings.Settings.{Settings as SettingsSeen};
-ghost use Rattle.hv_model.specs.Encoding.{output};
+ghost use Rattle.hv_model.specs.IntraPictures.{output};
 ghost use Rattle.hv_words.specs.CommandLine.{AsksFor};
 ghost use Rattle.hv_serial.specs.Outcomes.{pictures_in};
 ghost use Rattle.hv_run.specs.Report.{line_of};

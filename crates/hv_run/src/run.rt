@@ -3,12 +3,11 @@
 ghost use Rattle.std.specs.Prelude.{◌≡◌, ◌⊎◌, ℕ, List, Some, length, IsTrue};
 ghost use Rattle.hv_types.specs.declared.settings.Settings.{Settings as SettingsSeen};
 ghost use Rattle.hv_types.specs.declared.picture.Picture.{Picture as PictureSeen};
-ghost use Rattle.hv_types.specs.declared.settings.Emit.TheVariants.{Stream};
 ghost use Rattle.hv_types.specs.Configuration.{picture_bytes};
 ghost use Rattle.hv_types.specs.Outside.{Rises};
 ghost use Rattle.hv_model.specs.Built.{IsBuilt};
 ghost use Rattle.hv_model.specs.Decoding.{decode_of};
-ghost use Rattle.hv_model.specs.Encoding.{encode_of, recon_of, output};
+ghost use Rattle.hv_model.specs.IntraPictures.{encode_of, recon_of, output};
 ghost use Rattle.hv_words.specs.CommandLine.{AsksFor, IsRefused, Refusal, refusal};
 ghost use Rattle.hv_serial.specs.Transfers.{drawn, put, Grows, PutsPart};
 ghost use Rattle.hv_serial.specs.Outcomes.{pictures_in, IsReadToEnd, EndsWithin, GoesOn};
@@ -19,7 +18,7 @@ ghost use Rattle.hv_run.specs.Statuses.{status_of as status_of_error};
 
 use crate::report::{report_error, report_totals, report_words};
 use crate::status::Status;
-use hv_model::{decoding_gives_reconstruction, each_is_reconstructed};
+use hv_model::{each_intra_picture_is_shown, intra_streams_are_decoded};
 use hv_serial::{EncodeError, encode_video};
 use hv_types::{Config, Failed, Gate, Sink, Source, Words};
 use hv_words::{WordsError, config_of_words};
@@ -31,13 +30,14 @@ use std::thread::Threads;
 /// the line of the status to the report.
 ///
 /// The words are those of `config_of_words`, with any size, group and levels that `Config::checked`
-/// accepts. Built so far are `--effort 0` with one worker, a stream as output and no generator;
-/// others are refused. The video is raw 8-bit 4:2:0, at most 400,000 pictures, in groups of which
-/// the last may have fewer pictures. A group is read whole, encoded and written before the next
-/// byte is read: where reading ends within one, nothing of it is written. The gate isn't used yet,
-/// and no thread is started. The first refusal in the order of words, reading, encoding, writing
-/// and report ends the call. Behind the last write, and before the report, `out` is asked once for
-/// its end, also where nothing was written: a refusal there is `WriteFault`.
+/// accepts. Built so far are `--effort 0`, or `--group 1` at any effort, with one worker, a stream
+/// as output and no generator; others are refused. The video is raw 8-bit 4:2:0, at most 400,000
+/// pictures, in groups of which the last may have fewer pictures. A group is read whole, encoded
+/// and written before the next byte is read: where reading ends within one, nothing of it is
+/// written. The gate isn't used yet, and no thread is started. The first refusal in the order of
+/// words, reading, encoding, writing and report ends the call. Behind the last write, and before
+/// the report, `out` is asked once for its end, also where nothing was written: a refusal there is
+/// `WriteFault`.
 ///
 /// A clause on `cfg` speaks of accepted words, which ask for these settings; one on `bytes` of a
 /// source that tells its bytes, and that had these left; one on `left` of a source that has these
@@ -129,8 +129,8 @@ pub fn run_encode<S: Source, K: Sink, P: Sink, G: Gate, R: Threads + Wait + Sync
         ¬ Rises (P.faults report.old) (P.faults report.new) →
         IsDue cfg (length bytes) result }
 {
-    decoding_gives_reconstruction();
-    each_is_reconstructed();
+    intra_streams_are_decoded();
+    each_intra_picture_is_shown();
     match config_of_words(alloc, words) {
         Ok(config) => encode_and_report(alloc, &config, source, out, report),
         Err(error) => {
@@ -160,7 +160,6 @@ fn encode_and_report<S: Source, K: Sink, P: Sink>(
     report: &mut P,
 ) -> Status
     requires built { IsBuilt config.now }
-    requires emit { config.now.emit ≡ Stream }
     ensures { Concludes config.now (drawn S.left S.faults source.old source.new)
         (put K.written K.faults out.old out.new)
         (put P.written P.faults report.old report.new) result }

@@ -3,15 +3,14 @@ use Rattle.std.proofs.Common.{refl, sym, ◌∙◌}
 use Rattle.hv_run.specs.declared.status.Status.TheVariants.{Ok, ReadFault, ShortPicture, WriteFault, NoMemory, TooLong, ReportFault}
 use Rattle.hv_serial.specs.Transfers.{drawn, put}
 use Rattle.hv_serial.proofs.EndLemmas.{start_no_memory}
-use Rattle.hv_words.proofs.AcceptanceLemmas.{accepted_built, accepted_emit}
+use Rattle.hv_words.proofs.AcceptanceLemmas.{accepted_built}
 use Rattle.hv_run.proofs.ConclusionLemmas.{concluded, refused_so, not_refused, refusal_told, no_memory_told, words_never, whole_case, groups_case, line_case, ok_line, part_of_line, complete_case}
 use Rattle.hv_run.proofs.run.run_encode.Goals as goal
 
-pub encode_and_report-requires-clause-built : goal.encode_and_report-requires-clause-built
-encode_and_report-requires-clause-built g c = accepted_built c.args.words.now c.in-Ok.config c.in-Ok.ensures.ok
-
-pub encode_and_report-requires-clause-emit : goal.encode_and_report-requires-clause-emit
-encode_and_report-requires-clause-emit g c = accepted_emit c.args.words.now c.in-Ok.config c.in-Ok.ensures.ok
+pub encode_and_report-requires : goal.encode_and_report-requires
+encode_and_report-requires g c = record {
+  built = accepted_built c.args.words.now c.in-Ok.config c.in-Ok.ensures.ok;
+}
 
 pub returns-in-Ok-clause-ok_read : goal.returns-in-Ok-clause-ok_read
 returns-in-Ok-clause-ok_read g c cfg bytes a told whole =
@@ -43,8 +42,7 @@ returns-in-Ok-clause-words_only g c is =
 
 pub returns-in-Ok-clause-decoded : goal.returns-in-Ok-clause-decoded
 returns-in-Ok-clause-decoded g c cfg v a =
-    let built = accepted_built _ cfg a in
-    c.decoding_gives_reconstruction.ensures cfg v built.valid built.effort
+    c.intra_streams_are_decoded.ensures cfg v (accepted_built _ cfg a).valid
 
 pub returns-in-Ok-clause-read_fault : goal.returns-in-Ok-clause-read_fault
 returns-in-Ok-clause-read_fault g c is =
@@ -105,12 +103,11 @@ returns-in-Ok-clause-complete g c cfg bytes a told no_read no_write no_report =
 
 pub returns-then-is_want_of_memory-clause-decoded : goal.returns-then-is_want_of_memory-clause-decoded
 returns-then-is_want_of_memory-clause-decoded g c cfg v a =
-    let built = accepted_built _ cfg a in
-    c.decoding_gives_reconstruction.ensures cfg v built.valid built.effort
+    c.intra_streams_are_decoded.ensures cfg v (accepted_built _ cfg a).valid
 
 pub returns-then-is_want_of_memory-clause-some_written : goal.returns-then-is_want_of_memory-clause-some_written
 returns-then-is_want_of_memory-clause-some_written g c cfg bytes left a told told_left is =
-    (start_no_memory cfg (accepted_built _ cfg a) (accepted_emit _ cfg a)
+    (start_no_memory cfg (accepted_built _ cfg a)
     (drawn g.S.Source.left g.S.Source.faults c.args.source.now c.args.source.now) (put g.K.Sink.written g.K.Sink.faults c.args.out.now c.args.out.now) refl).wrote
     bytes left told told_left
 
@@ -120,8 +117,7 @@ returns-then-is_want_of_memory-clause-other_report g c line is =
 
 pub returns-clause-decoded : goal.returns-clause-decoded
 returns-clause-decoded g c cfg v a =
-    let built = accepted_built _ cfg a in
-    c.decoding_gives_reconstruction.ensures cfg v built.valid built.effort
+    c.intra_streams_are_decoded.ensures cfg v (accepted_built _ cfg a).valid
 
 pub returns-clause-words_only : goal.returns-clause-words_only
 returns-clause-words_only g c is =

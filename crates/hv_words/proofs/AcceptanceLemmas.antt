@@ -3,8 +3,6 @@ use Rattle.std.proofs.Common.{◌≡◌, ◌&&◌, ℕ, Bool, true, false, cond,
 use Rattle.std.specs.Prelude.{Option, Some, None, nat_eq}
 use Rattle.hv_lemmas.proofs.OptionLemmas.{some_same}
 use Rattle.hv_types.specs.declared.settings.Settings.{Settings}
-use Rattle.hv_types.specs.declared.settings.Emit.{Emit}
-use Rattle.hv_types.specs.declared.settings.Emit.TheVariants.{Stream, Recon}
 use Rattle.hv_types.specs.declared.settings.ConfigError.{ConfigError}
 use Rattle.hv_types.specs.Configuration.{fault_of}
 use Rattle.hv_types.proofs.ConfigurationLemmas.{valid}
@@ -13,12 +11,10 @@ use Rattle.hv_model.proofs.RoundTripLemmas.{built_decided}
 use Rattle.hv_words.specs.CommandLine.{not_built}
 use Rattle.hv_words.specs.CommandLine.{AsksFor, refusal_of_settings, refusal_by, is_accepted, is_stream, is_read}
 
--- of four tests, the first and the third
-first_and_third : (a b c d : Bool) → (a && b && c && d) ≡ true → (a ≡ true) × (c ≡ true)
-first_and_third true true true d e = (refl, refl)
-first_and_third true true false d e = cc
-first_and_third true false c d e = cc
-first_and_third false b c d e = cc
+-- of four tests the first
+first_test : (a b c d : Bool) → (a && b && c && d) ≡ true → a ≡ true
+first_test true b c d e = refl
+first_test false b c d e = cc
 
 not_refused : (t : Bool) → cond t None (Some not_built) ≡ None → t ≡ true
 not_refused true e = refl
@@ -28,10 +24,6 @@ no_fault : (cfg : Settings) (fault : Option ConfigError) → refusal_by fault cf
 no_fault cfg None e = (refl, not_refused (is_accepted cfg) e)
 no_fault cfg (Some error) e = cc
 
-only_stream : (emit : Emit) → is_stream emit ≡ true → emit ≡ Stream
-only_stream Stream e = refl
-only_stream Recon e = cc
-
 accepted : (words : List (List ℕ)) (cfg : Settings) → AsksFor words cfg → (fault_of cfg ≡ None) × (is_accepted cfg ≡ true)
 accepted words cfg a = no_fault cfg (fault_of cfg) (ap refusal_of_settings (sym a.asked) ∙ a.accepted)
 
@@ -39,13 +31,7 @@ pub accepted_built : (words : List (List ℕ)) (cfg : Settings) → AsksFor word
 accepted_built words cfg a =
     let h = accepted words cfg a in
     (built_decided cfg (valid cfg h.0)).0
-    (first_and_third (is_built cfg) (nat_eq cfg.workers 1) (is_stream cfg.emit) (is_read cfg.synth) h.1).0
-
-pub accepted_emit : (words : List (List ℕ)) (cfg : Settings) → AsksFor words cfg → cfg.emit ≡ Stream
-accepted_emit words cfg a =
-    let h = accepted words cfg a in
-    only_stream cfg.emit
-    (first_and_third (is_built cfg) (nat_eq cfg.workers 1) (is_stream cfg.emit) (is_read cfg.synth) h.1).1
+    (first_test (is_built cfg) (nat_eq cfg.workers 1) (is_stream cfg.emit) (is_read cfg.synth) h.1)
 
 -- the settings are one
 pub same_settings : (words : List (List ℕ)) (a b : Settings) → AsksFor words a → AsksFor words b → a ≡ b

@@ -3,6 +3,8 @@
 
 #[cfg(test)]
 mod group_tests;
+#[cfg(test)]
+mod intra_tests;
 mod known_ends;
 mod report;
 mod run;

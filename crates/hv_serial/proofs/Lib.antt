@@ -9,4 +9,5 @@ mod UnitLemmas
 mod OutputLemmas
 mod GreyLemmas
 mod BlankGroupLemmas
+mod CropLemmas
 pub mod EndLemmas

@@ -6,6 +6,7 @@ mod encode;
 mod group;
 mod parameters;
 mod reading;
+mod shown;
 #[cfg(test)]
 mod tests;
 mod transfer;

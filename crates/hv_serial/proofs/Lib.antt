@@ -10,4 +10,5 @@ mod OutputLemmas
 mod GreyLemmas
 mod BlankGroupLemmas
 mod CropLemmas
+mod IntraGroupLemmas
 pub mod EndLemmas

@@ -4,6 +4,7 @@
 mod answers;
 mod encode;
 mod group;
+mod intra;
 mod parameters;
 mod reading;
 mod shown;

@@ -136,7 +136,7 @@ fn is_in_picture(place: Place, column: u8, row: u8) -> bool
 }
 
 /// A square that is available to the node at `address`.
-#[tactic(auto, unfolding(hv_unit_model::specs::Plans::look_around))]
+#[tactic(auto, unfolding(hv_tree_model::specs::Plans::look_around))]
 fn seen(
     place: Place,
     near: &Neighbours,

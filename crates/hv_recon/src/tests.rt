@@ -76,7 +76,7 @@ fn rebuild(block: &mut Block, place: Place, node: (u8, u8), mode: u8, near: &Nei
 /// Nothing is around the first block; from the left of the second, row by row, each of the four
 /// transform units of 32x32 goes on with the one before.
 #[test]
-#[tactic(auto, unfolding(hv_unit_model::specs::Sites::column_of, hv_unit_model::specs::Sites::row_of))]
+#[tactic(auto, unfolding(hv_tree_model::specs::Sites::column_of, hv_tree_model::specs::Sites::row_of))]
 fn units_of_64(rt: HostRuntime) -> Result<(), Fail> {
     let mut block = Block::new(rt.alloc())?;
     assert!(rt; rebuild(&mut block, place(0), (0, 3), 1, &NONE));
@@ -94,7 +94,7 @@ fn units_of_64(rt: HostRuntime) -> Result<(), Fail> {
 
 /// A unit of 8x8 beside the first, from the lower left, where nothing is decoded yet.
 #[test]
-#[tactic(auto, unfolding(hv_unit_model::specs::Sites::column_of, hv_unit_model::specs::Sites::row_of))]
+#[tactic(auto, unfolding(hv_tree_model::specs::Sites::column_of, hv_tree_model::specs::Sites::row_of))]
 fn lower_left_comes_later(rt: HostRuntime) -> Result<(), Fail> {
     let mut block = Block::new(rt.alloc())?;
     block.samples.luma_mut().fill(9);
@@ -112,7 +112,7 @@ fn lower_left_comes_later(rt: HostRuntime) -> Result<(), Fail> {
 /// From the upper right: the second unit of 8x8 is decoded before the third, the fifth isn't before
 /// the fourth.
 #[test]
-#[tactic(auto, unfolding(hv_unit_model::specs::Sites::column_of, hv_unit_model::specs::Sites::row_of))]
+#[tactic(auto, unfolding(hv_tree_model::specs::Sites::column_of, hv_tree_model::specs::Sites::row_of))]
 fn upper_right_comes_before(rt: HostRuntime) -> Result<(), Fail> {
     let mut block = Block::new(rt.alloc())?;
     block.samples.luma_mut().fill(9);
@@ -145,7 +145,7 @@ fn upper_right_comes_before(rt: HostRuntime) -> Result<(), Fail> {
 /// Below the picture's first blocks at its left edge, from the left: what lies there has the first
 /// sample above. Luma of 8x8 is smoothed in its first row.
 #[test]
-#[tactic(auto, unfolding(hv_unit_model::specs::Sites::column_of, hv_unit_model::specs::Sites::row_of))]
+#[tactic(auto, unfolding(hv_tree_model::specs::Sites::column_of, hv_tree_model::specs::Sites::row_of))]
 fn left_edge(rt: HostRuntime) -> Result<(), Fail> {
     let mut block = Block::new(rt.alloc())?;
     let mut above = edges(50, 60, 70);
@@ -167,7 +167,7 @@ fn left_edge(rt: HostRuntime) -> Result<(), Fail> {
 
 /// A unit of 32x32 from above: a column that differs is copied down to its end.
 #[test]
-#[tactic(auto, unfolding(hv_unit_model::specs::Sites::column_of, hv_unit_model::specs::Sites::row_of))]
+#[tactic(auto, unfolding(hv_tree_model::specs::Sites::column_of, hv_tree_model::specs::Sites::row_of))]
 fn column_of_32(rt: HostRuntime) -> Result<(), Fail> {
     let mut block = Block::new(rt.alloc())?;
     let mut above = edges(50, 60, 70);
@@ -187,7 +187,7 @@ fn column_of_32(rt: HostRuntime) -> Result<(), Fail> {
 
 /// A plane through the samples at the left and above, in Cb of 8x8 and luma of 16x16.
 #[test]
-#[tactic(auto, unfolding(hv_unit_model::specs::Sites::column_of, hv_unit_model::specs::Sites::row_of))]
+#[tactic(auto, unfolding(hv_tree_model::specs::Sites::column_of, hv_tree_model::specs::Sites::row_of))]
 fn planar_of_16(rt: HostRuntime) -> Result<(), Fail> {
     let mut block = Block::new(rt.alloc())?;
     let mut near = NONE;
@@ -208,7 +208,7 @@ fn planar_of_16(rt: HostRuntime) -> Result<(), Fail> {
 /// The first level 1 at the quantiser 40 is 8 in each sample of luma of 8x8; chroma has the
 /// quantiser 36, by which it is 10 in each sample of 4x4, and would have 16 by 40.
 #[test]
-#[tactic(auto, unfolding(hv_unit_model::specs::Sites::column_of, hv_unit_model::specs::Sites::row_of))]
+#[tactic(auto, unfolding(hv_tree_model::specs::Sites::column_of, hv_tree_model::specs::Sites::row_of))]
 fn levels_at_40(rt: HostRuntime) -> Result<(), Fail> {
     let mut block = Block::new(rt.alloc())?;
     block.plan.luma_mut()[0] = 1;

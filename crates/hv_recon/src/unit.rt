@@ -213,7 +213,7 @@ fn rebuild_cr(view: &View<'_>, spot: Spot, levels: &[i16], out: &mut Samples)
 }
 
 /// The column of a square by its address in z-scan order (6.5.2).
-#[tactic(auto, unfolding(hv_unit_model::specs::Sites::column_of))]
+#[tactic(auto, unfolding(hv_tree_model::specs::Sites::column_of))]
 pub fn column_of(address: u8) -> usize
     requires { address < 64 }
     ensures value { result ≡ column_of address }
@@ -223,7 +223,7 @@ pub fn column_of(address: u8) -> usize
 }
 
 /// Its row.
-#[tactic(auto, unfolding(hv_unit_model::specs::Sites::row_of))]
+#[tactic(auto, unfolding(hv_tree_model::specs::Sites::row_of))]
 pub fn row_of(address: u8) -> usize
     requires { address < 64 }
     ensures value { result ≡ row_of address }

@@ -29,7 +29,7 @@ fn on_bottom(edges: Option<SampleEdges<'_>>, i: usize) -> Option<u8>
 }
 
 /// The address in z-scan order (6.5.2) of the square in this column and row.
-#[tactic(auto, unfolding(hv_unit_model::specs::Sites::address_of))]
+#[tactic(auto, unfolding(hv_tree_model::specs::Sites::address_of))]
 fn address_of(column: usize, row: usize) -> usize
     ensures { result ≡ address_of column row }
 {

@@ -139,7 +139,7 @@ impl Units {
     }
 
     /// A block with levels of noise.
-    #[tactic(auto, unfolding(hv_unit_model::specs::Sites::address_of))]
+    #[tactic(auto, unfolding(hv_tree_model::specs::Sites::address_of))]
     fn of_noise(alloc: Global, kind: SliceKind, seed: u32) -> anyhow::Result<Units> {
         let Ok(mut block) = Block::new(alloc) else {
             bail!("not enough memory");

@@ -7,7 +7,7 @@ use crate::site::Site;
 
 /// The column of an address.
 #[inline(always)]
-#[tactic(auto, unfolding(hv_unit_model::specs::Sites::column_of))]
+#[tactic(auto, unfolding(hv_tree_model::specs::Sites::column_of))]
 pub fn column_of(address: u8) -> u8
     requires { address < 64 }
     ensures value { result ≡ column_of address }
@@ -18,7 +18,7 @@ pub fn column_of(address: u8) -> u8
 
 /// The row of an address.
 #[inline(always)]
-#[tactic(auto, unfolding(hv_unit_model::specs::Sites::row_of))]
+#[tactic(auto, unfolding(hv_tree_model::specs::Sites::row_of))]
 pub fn row_of(address: u8) -> u8
     requires { address < 64 }
     ensures value { result ≡ row_of address }
@@ -29,7 +29,7 @@ pub fn row_of(address: u8) -> u8
 
 /// The address of a column and a row.
 #[inline(always)]
-#[tactic(auto, unfolding(hv_unit_model::specs::Sites::address_of))]
+#[tactic(auto, unfolding(hv_tree_model::specs::Sites::address_of))]
 pub fn address_of(column: u8, row: u8) -> u8
     requires column { column < 8 }
     requires row { row < 8 }
@@ -92,7 +92,7 @@ fn top_edge(site: &Site, address: u8) -> u64
 
 /// Whether a node begins outside the picture.
 #[inline(always)]
-#[tactic(auto, unfolding(hv_unit_model::specs::Sites::is_outside))]
+#[tactic(auto, unfolding(hv_tree_model::specs::Sites::is_outside))]
 pub fn is_outside(site: &Site, address: u8) -> bool
     requires { address < 64 }
     ensures { result ≡ is_outside site.now.place address }
@@ -103,7 +103,7 @@ pub fn is_outside(site: &Site, address: u8) -> bool
 
 /// Whether a node crosses the picture's right or bottom edge.
 #[inline(always)]
-#[tactic(auto, unfolding(hv_unit_model::specs::Sites::crosses))]
+#[tactic(auto, unfolding(hv_tree_model::specs::Sites::crosses))]
 pub fn crosses(site: &Site, size: u8, address: u8) -> bool
     requires size { size ≤ 3 }
     requires address { address < 64 }

@@ -337,7 +337,7 @@ impl Placed {
     }
 
     /// How many bins its quadtree has, where its units name its coding units.
-    #[tactic(auto, unfolding(hv_unit_model::specs::Sites::address_of))]
+    #[tactic(auto, unfolding(hv_tree_model::specs::Sites::address_of))]
     fn count(&self, kind: SliceKind) -> Option<u64> {
         let plan = &self.block.plan;
         if self.place.width == 0 || !names_its_node(self.place, plan, ROOT) {

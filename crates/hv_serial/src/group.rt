@@ -7,6 +7,7 @@ ghost use Rattle.hv_model.specs.IntraPictures.{encode_group};
 ghost use Rattle.hv_serial.specs.Steps.{OfPadded, emitted};
 ghost use Rattle.hv_serial.specs.BlankGroups.{blank_units_of, grey_pictures};
 
+use crate::intra::encode_intra_group;
 use hv_decision::{Group, GroupOutput};
 use hv_model::nothing_is_chosen_at_effort_zero;
 use hv_packet::picture_unit;
@@ -17,8 +18,8 @@ use std::alloc::Global;
 const GREY: u8 = 128;
 
 /// The output of a group: its units in coding order and, where reconstructed pictures are emitted,
-/// these in output order. So far at effort 0 alone, where nothing is chosen. The only error is want
-/// of memory.
+/// these in output order. At effort 0 nothing is chosen; at other efforts groups have one picture.
+/// The only error is want of memory.
 pub fn encode_group_serial(alloc: Global, group: &Group) -> Result<GroupOutput, NoMemory>
     requires built { IsBuilt group.now.input.config }
     ensures slices { IfOk result (λ output. OfPadded group.now.input.pictures (λ pictures.
@@ -27,8 +28,12 @@ pub fn encode_group_serial(alloc: Global, group: &Group) -> Result<GroupOutput, 
         output.shown ≡ emitted group.now.input.config.emit
         (encode_group group.now.input.config pictures).shown)) }
 {
-    nothing_is_chosen_at_effort_zero();
-    encode_blank_group(alloc, group)
+    if group.input.config().settings().effort == 0 {
+        nothing_is_chosen_at_effort_zero();
+        encode_blank_group(alloc, group)
+    } else {
+        encode_intra_group(alloc, group)
+    }
 }
 
 /// The output of a group in which nothing is chosen, as at effort 0: the samples of its pictures

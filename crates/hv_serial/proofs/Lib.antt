@@ -11,4 +11,5 @@ mod GreyLemmas
 mod BlankGroupLemmas
 mod CropLemmas
 mod IntraGroupLemmas
+mod IntraPictureLemmas
 pub mod EndLemmas

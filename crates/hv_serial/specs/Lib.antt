@@ -3,3 +3,4 @@ pub mod Outcomes
 pub mod Endings
 pub mod Steps
 pub mod BlankGroups
+pub mod ChosenPictures

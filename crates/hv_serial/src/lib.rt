@@ -2,6 +2,7 @@
 #![tactic(auto)]
 
 mod answers;
+mod chosen;
 mod encode;
 mod group;
 mod intra;

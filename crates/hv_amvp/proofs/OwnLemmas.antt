@@ -15,6 +15,7 @@ use Rattle.hv_unit_model.proofs.GeometryLemmas.{address_of_place}
 use Rattle.hv_syntax.specs.Squares.{Shows}
 use Rattle.hv_vector_model.specs.Vectors.{unit_with_vector, plan_with_vectors, neighbourhood_of}
 use Rattle.hv_amvp.specs.Own.{square_with_vector, own_squares}
+use Rattle.hv_lemmas.proofs.BooleanLemmas.{same_where, other_where}
 
 -- ---- the squares of the units are such
 
@@ -52,16 +53,6 @@ same_square site plan address xs ys a s t h = elim (cases_lt a address) [
       sym (get_or_past ys a Unavailable (omega (arith, t.count, past)))
 ]
 
-then_same : {A : Type 0} (test : Bool) (a b c : A) → (test ≡ true → a ≡ b) →
-    cond test a c ≡ cond test b c
-then_same true a b c h = h refl
-then_same false a b c h = refl
-
-else_same : {A : Type 0} (test : Bool) (a b c : A) → (test ≡ false → b ≡ c) →
-    cond test a b ≡ cond test a c
-else_same true a b c h = refl
-else_same false a b c h = h refl
-
 -- a square of the block that is in the picture isn't outside
 inside_of_block : (site : Site) (column row : ℕ) → 8 ≤ column → column < 16 → 8 ≤ row → row < 16 →
     is_in_picture site (8 * ctb_column site + column) (8 * ctb_row site + row) ≡ true →
@@ -89,14 +80,14 @@ same_look : (site : Site) (around : UnitsAround) (plan : Plan) (address : ℕ)
     look_around site around xs column row ≡ look_around site around ys column row
 unfolding look_around
 same_look site around plan address xs ys s t column row =
-    then_same (is_in_picture site (8 * ctb_column site + column) (8 * ctb_row site + row))
+    same_where (is_in_picture site (8 * ctb_column site + column) (8 * ctb_row site + row))
     (square_around around xs column row) (square_around around ys column row) Unavailable
     (λ inside.
-    else_same (nat_lt column 8) _ _ _
+    other_where (nat_lt column 8) _ _ _
     (λ right.
-    else_same (nat_lt row 8) _ _ _
+    other_where (nat_lt row 8) _ _ _
     (λ low.
-    then_same (nat_lt column 16 && nat_lt row 16) _ _ Unavailable
+    same_where (nat_lt column 16 && nat_lt row 16) _ _ Unavailable
     (λ near.
     let parts = and_parts (nat_lt column 16) (nat_lt row 16) near in
     same_square site plan address xs ys (address_of (column - 8) (row - 8)) s t

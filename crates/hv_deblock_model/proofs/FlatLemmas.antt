@@ -10,7 +10,7 @@ use Rattle.hv_lemmas.proofs.ListLemmas.{tabulate-same}
 use Rattle.std.specs.List.{concat}
 use Rattle.hv_tables.specs.Quantisers.{chroma_qp}
 use Rattle.hv_types.specs.Samples.{Plane, plane_by_rows, plane_of, filled_plane, sample_at, IsWhole, HasByteSamples}
-use Rattle.hv_types.proofs.SampleLemmas.{sample_at-filled_plane, IsPlane-plane_of, All-rows}
+use Rattle.hv_types.proofs.SampleLemmas.{sample_at-filled_plane, IsPlane-plane_of, All-rows, plane_same}
 use Rattle.hv_filter_model.specs.SampleAdaptiveOffset.{sao_picture}
 use Rattle.hv_filter_model.proofs.OffLemmas.{clip1_same, picture_same, off_changes_nothing}
 use Rattle.hv_deblock_model.specs.declared.line.Side.{Side}
@@ -21,14 +21,6 @@ use Rattle.hv_deblock_model.specs.Deblocking.{Samples, EdgeFilter, line_at, side
 use Rattle.hv_filter_model.specs.FlatPictures.{flat_picture}
 use Rattle.hv_deblock_model.specs.FlatPictures.{FlatPicturesAreKept, FlatPicturesAreShown}
 use Rattle.hv_deblock_model.proofs.LineLemmas.{line_of, line_same}
-
-pub plane_same : (width height : ℕ) (f g : ℕ → ℕ → ℕ) →
-    ((x y : ℕ) → x < width → y < height → f x y ≡ g x y) →
-    plane_of width height f ≡ plane_of width height g
-plane_same width height f g same =
-    ap (λ rows. plane_by_rows width height (concat rows))
-    (tabulate-same height _ _
-    (λ y down. tabulate-same width _ _ (λ x across. same x y across down)))
 
 -- ---- lines of equal samples
 

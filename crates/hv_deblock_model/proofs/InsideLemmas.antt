@@ -10,8 +10,8 @@ use Rattle.hv_deblock_model.specs.EdgeStrength.{Squares, is_transform_edge, stre
 use Rattle.hv_deblock_model.specs.EdgeFilters.{luma_edge, chroma_edge}
 use Rattle.hv_deblock_model.specs.Deblocking.{Samples, EdgeFilter, line_at, line_sample, pass, turned, nearest_edge, first_of_four, filtered_line, luma_filter, chroma_filter, both_passes, deblocked_plane}
 use Rattle.hv_deblock_model.specs.SquaresInside.{SameInside, OnlySquaresInsideCount}
-use Rattle.hv_deblock_model.proofs.FlatLemmas.{plane_same}
 use Rattle.hv_deblock_model.proofs.LineLemmas.{line_same}
+use Rattle.hv_types.proofs.SampleLemmas.{plane_same}
 
 -- ---- one pass
 

@@ -15,6 +15,7 @@ use Rattle.hv_decision.specs.Coding.{coded_as}
 use Rattle.hv_decision.specs.Sets.{AreLives, life_in, life_before, is_kept_at, kept_by, entry_before, entry_after, set_entries, OfPicture, row_in}
 use Rattle.hv_decision.proofs.EachStructureLemmas.{kept_count}
 use Rattle.hv_decision.proofs.LifeLemmas.{life_from, life_from-more, is_kept-life, the_life}
+use Rattle.hv_lemmas.proofs.ListLemmas.{maps_same}
 
 -- ---- lives
 
@@ -126,10 +127,6 @@ lives_go_back order place at d e lives result some within is before count each =
     (each p (omega (arith, l, count))) ∙
     ap g (sym (none_more p)) in
     places_are g e result 0 found ∙ ap (λ k. map g (rising k 0)) (count ∙ many)
-
-maps_same : {A B : Type 0} (f g : A → B) (xs : List A) → ((x : A) → f x ≡ g x) → map f xs ≡ map g xs
-maps_same f g [] h = refl
-maps_same f g (x ∷ xs) h = ap₂ (λ y ys. y ∷ ys) (h x) (maps_same f g xs h)
 
 -- the walk has come to the first place
 pub lives_whole : (order : List CodedPicture) (place : ℕ) (lives : List Life) → place ≤ 0 →

@@ -9,6 +9,7 @@ use Rattle.hv_tables.specs.Tables.{HasEntries}
 use Rattle.hv_lanes.specs.Passes.{WeighAtMost, table_row}
 use Rattle.std.proofs.lemmas.Int.{ints, unsigned_abs-mul}
 use Rattle.std.proofs.Math.Nat.{add-mul, mul-le-mul_left}
+use Rattle.hv_sample_model.proofs.SumLemmas.{total_of_same}
 
 abbrev pub row_weight : ℕ → ℕ → ℕ
 row_weight log2 k = total_of (2 ^ log2) (λ n. unsigned_abs (transMatrix log2 k n))
@@ -48,12 +49,6 @@ pub light : (log2 i : ℕ) → 2 ≤ log2 → log2 ≤ 5 → i < 2 ^ log2 → (r
 light log2 i least greatest inside =
     let parts = and_parts _ _ (holds_below (2 ^ log2) (λ i. nat_le (row_weight log2 i) (64 * 2 ^ log2) && nat_le (column_weight log2 i) 2048) (all_light log2 least greatest) i inside) in
     (leb-true _ _ parts.0, leb-true _ _ parts.1)
-
-total_of_same : (n : ℕ) (f g : ℕ → ℕ) → ((i : ℕ) → i < n → f i ≡ g i) → total_of n f ≡ total_of n g
-unfolding total_of
-total_of_same zero f g same = refl
-total_of_same (suc n) f g same =
-    ap₂ (λ a b. a + b) (total_of_same n f g (λ i below. same i (omega (arith, below)))) (same n (omega arith))
 
 -- tables of the matrix by rows and by columns
 light_rows : (log2 : ℕ) (table : List (List ℤ)) → 2 ≤ log2 → log2 ≤ 5 → HasEntries (2 ^ log2) (transMatrix log2) table → WeighAtMost (2 ^ log2) (64 * 2 ^ log2) table

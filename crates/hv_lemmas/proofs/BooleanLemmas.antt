@@ -18,3 +18,14 @@ or_right false c either off = either
 pub one_of : (b : Bool) → bool_byte b ≡ cond b 1 0
 one_of true = refl
 one_of false = refl
+
+-- a choice by a test, where that which it takes may be exchanged
+pub same_where : {A : Type 0} (test : Bool) (a b c : A) → (test ≡ true → a ≡ b) →
+    cond test a c ≡ cond test b c
+same_where true a b c h = h refl
+same_where false a b c h = refl
+
+pub other_where : {A : Type 0} (test : Bool) (a b c : A) → (test ≡ false → b ≡ c) →
+    cond test a b ≡ cond test a c
+other_where true a b c h = refl
+other_where false a b c h = h refl

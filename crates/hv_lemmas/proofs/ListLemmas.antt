@@ -1,5 +1,7 @@
--- Lists made from a function of the place: how long they are, what stands where, and when two are one.
-use Rattle.std.proofs.Common.{◌≡◌, ℕ, zero, suc, ◌<◌, List, [], ◌∷◌, ◌++◌, length, get_or, refl, ap, arith}
+-- Lists: those made from a function of the place, how long they are, what stands where, and when two
+-- are one.
+use Rattle.std.proofs.Common.{◌≡◌, ℕ, zero, suc, ◌<◌, List, [], ◌∷◌, ◌++◌, length, take, map, get_or, refl, sym, ap, ap₂, ◌∙◌, arith}
+use Rattle.std.specs.Prelude.{slice_get, Some}
 use Rattle.hv_lemmas.specs.Lists.{tabulate}
 
 pub length-tabulate : {A : Type 0} (n : ℕ) (f : ℕ → A) → length (tabulate n f) ≡ n
@@ -37,3 +39,32 @@ pub tabulate_own : {A : Type 0} (xs : List A) (d : A) → tabulate (length xs)
 unfolding tabulate
 tabulate_own [] d = refl
 tabulate_own (x ∷ xs) d = ap (λ t. x ∷ t) (tabulate_own xs d)
+
+-- ---- what stands in a place
+
+-- what stands in the list stands in its front
+pub got_before : {A : Type 0} (n : ℕ) (xs : List A) (i : ℕ) → i < n →
+    slice_get (take n xs) i ≡ slice_get xs i
+got_before zero xs i below = absurd (omega (arith, below))
+got_before (suc n) [] i below = refl
+got_before (suc n) (x ∷ xs) zero below = refl
+got_before (suc n) (x ∷ xs) (suc i) below = got_before n xs i (omega (arith, below))
+
+-- two lists that begin alike
+pub get_before : {A : Type 0} (n : ℕ) (xs ys : List A) (i : ℕ) → i < n →
+    take n xs ≡ take n ys → slice_get xs i ≡ slice_get ys i
+get_before n xs ys i below same =
+    sym (got_before n xs i below) ∙ ap (λ l. slice_get l i) same ∙ got_before n ys i below
+
+pub there_is : {A : Type 0} (xs : List A) (k : ℕ) → k < length xs →
+    (x : A) × (slice_get xs k ≡ Some x)
+there_is [] k h = absurd (omega (arith, h))
+there_is (x ∷ xs) zero h = (x, refl)
+there_is (x ∷ xs) (suc k) h = there_is xs k (omega (arith, h))
+
+-- ---- functions that agree
+
+pub maps_same : {A B : Type 0} (f g : A → B) (xs : List A) → ((x : A) → f x ≡ g x) →
+    map f xs ≡ map g xs
+maps_same f g [] same = refl
+maps_same f g (x ∷ xs) same = ap₂ (λ y ys. y ∷ ys) (same x) (maps_same f g xs same)

@@ -22,7 +22,9 @@ use Rattle.hv_syntax.proofs.NamingLemmas.{names_leaf}
 use Rattle.hv_mode.specs.declared.task.Task.{Task}
 use Rattle.hv_mode.specs.Nodes.{SameBefore, Decides, blank_choice}
 use Rattle.hv_mode.proofs.CopyLemmas.{node_fits, squares_of_size, front_stays, behind_front}
-use Rattle.hv_mode.proofs.NodeFrameLemmas.{some_squares, decides_by}
+use Rattle.hv_mode.proofs.NodeFrameLemmas.{decides_by}
+use Rattle.hv_tree_model.proofs.NodeLemmas.{squares_above_0}
+use Rattle.hv_mode.proofs.BestLemmas.{begins_inside}
 
 -- ---- parts of a list that are all the same
 
@@ -147,7 +149,7 @@ module _ (size address : ℕ) (old : CtbPlan) (node : IsNodeOfBlock size address
   unit_there : slice_get new.units address ≡ Some (blank_unit size)
   unit_there =
       let first : address + 0 ≡ address = omega arith in
-      ap (slice_get new.units) (sym first) ∙ unit_at 0 (some_squares size)
+      ap (slice_get new.units) (sym first) ∙ unit_at 0 (squares_above_0 size)
 
 -- the transform units of the node
 blank_units : (size address : ℕ) (old : CtbPlan) → IsNodeOfBlock size address → IsWholePlan old →
@@ -231,17 +233,6 @@ blank_kept size address old new node whole is kept =
 some_power : (size : ℕ) → 1 ≤ 2 ^ size
 some_power zero = omega arith
 some_power (suc size) = let h = some_power size in omega (arith, h, pow-suc 2 size)
-
--- a node that lies in the picture begins in it
-pub begins_inside : (place : Site) (size address : ℕ) →
-    x0 place address + side size ≤ place.width → y0 place address + side size ≤ place.height →
-    is_outside place address ≡ false
-unfolding is_outside
-begins_inside place size address right bottom =
-    let some = some_power size in
-    let across : x0 place address < place.width = omega (arith, right, some) in
-    let down : y0 place address < place.height = omega (arith, bottom, some) in
-    grind (arith, nat_tests, across, down)
 
 pub blank_intra : (size address : ℕ) (old plan : CtbPlan) → IsNodeOfBlock size address →
     IsWholePlan old → plan ≡ blank_plan size address old →

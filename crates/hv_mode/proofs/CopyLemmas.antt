@@ -20,11 +20,12 @@ use Rattle.hv_recon_model.specs.SeenSamples.{by_rows, comes_before, IsPut}
 use Rattle.hv_recon_model.proofs.SeenLemmas.{ComesBetween}
 use Rattle.hv_recon_model.proofs.SeenNodeLemmas.{node_ends, luma_between, chroma_between}
 use Rattle.hv_recon.specs.DecodedNodes.{IsNodeOfBlock}
-use Rattle.hv_recon.proofs.ChoiceLemmas.{same_where}
 use Rattle.hv_recon.proofs.NodeLemmas.{node_of_block}
 use Rattle.hv_recon.proofs.PutRowLemmas.{place_inside}
 use Rattle.hv_mode.specs.Nodes.{SameSamples, SameInNode, CopiesNode}
 use Rattle.hv_mode.specs.Copies.{CopiesSquare, CopiesSamples}
+use Rattle.hv_lemmas.proofs.BooleanLemmas.{same_where}
+use Rattle.hv_recon_model.proofs.PictureLemmas.{corner_column, corner_row}
 
 -- ---- a square of samples
 
@@ -124,14 +125,6 @@ module _ (side x y log2 size address : ℕ) (from old new : List ℕ)
 first_address : (address : ℕ) → IsNodeOfBlock 3 address → address ≡ 0
 first_address address node = omega (arith, node.inside, node.multiple)
 
-first_column : column_of 0 ≡ 0
-unfolding column_of
-first_column = refl
-
-first_row : row_of 0 ≡ 0
-unfolding row_of
-first_row = refl
-
 pub node_fits : (size address : ℕ) → IsNodeOfBlock size address →
     (column_of address + 2 ^ size ≤ 8) × (row_of address + 2 ^ size ≤ 8) ×
     (address + squares size ≤ 64)
@@ -142,8 +135,8 @@ node_fits (suc (suc zero)) address node =
     node_ends 2 address (omega arith) (node_of_block 2 address node)
 node_fits (suc (suc (suc zero))) address node =
     let at = first_address address node in
-    let column : column_of address ≡ 0 = ap column_of at ∙ first_column in
-    let row : row_of address ≡ 0 = ap row_of at ∙ first_row in
+    let column : column_of address ≡ 0 = ap column_of at ∙ corner_column in
+    let row : row_of address ≡ 0 = ap row_of at ∙ corner_row in
     (omega (arith, column), omega (arith, row), omega (arith, at))
 node_fits (suc (suc (suc (suc size)))) address node = absurd (omega (arith, node.size_at_most))
 
@@ -176,9 +169,9 @@ node_luma (suc (suc zero)) address node =
 node_luma (suc (suc (suc zero))) address node =
     let at = first_address address node in
     let column : 0 ≡ 8 * column_of address =
-    sym (ap (λ a. 8 * column_of a) at ∙ ap (λ k. 8 * k) first_column) in
+    sym (ap (λ a. 8 * column_of a) at ∙ ap (λ k. 8 * k) corner_column) in
     let row : 0 ≡ 8 * row_of address =
-    sym (ap (λ a. 8 * row_of a) at ∙ ap (λ k. 8 * k) first_row) in
+    sym (ap (λ a. 8 * row_of a) at ∙ ap (λ k. 8 * k) corner_row) in
     subst (λ x. ComesBetween 64 x (8 * row_of address) 6 address (address + 64)) column
     (subst (λ y. ComesBetween 64 0 y 6 address (address + 64)) row
     (all_between 64 6 address at refl (λ p h. omega (arith, h))))
@@ -196,9 +189,9 @@ node_chroma (suc (suc zero)) address node =
 node_chroma (suc (suc (suc zero))) address node =
     let at = first_address address node in
     let column : 0 ≡ 4 * column_of address =
-    sym (ap (λ a. 4 * column_of a) at ∙ ap (λ k. 4 * k) first_column) in
+    sym (ap (λ a. 4 * column_of a) at ∙ ap (λ k. 4 * k) corner_column) in
     let row : 0 ≡ 4 * row_of address =
-    sym (ap (λ a. 4 * row_of a) at ∙ ap (λ k. 4 * k) first_row) in
+    sym (ap (λ a. 4 * row_of a) at ∙ ap (λ k. 4 * k) corner_row) in
     subst (λ x. ComesBetween 32 x (4 * row_of address) 5 address (address + 64)) column
     (subst (λ y. ComesBetween 32 0 y 5 address (address + 64)) row
     (all_between 32 5 address at refl (λ p h. omega (arith, h))))

@@ -15,15 +15,9 @@ use Rattle.hv_kernel.specs.Differences.{ssd_of}
 use Rattle.hv_kernel.proofs.PairLemmas.{sum_of_pairs-append}
 use Rattle.hv_mode.specs.declared.square.Square.{Square}
 use Rattle.hv_mode.specs.NodeErrors.{errors_by_rows}
+use Rattle.hv_sample_model.proofs.SumLemmas.{total_of_same}
 
 -- ---- sums
-
-pub total-same : (n : ℕ) (f g : ℕ → ℕ) → ((i : ℕ) → i < n → f i ≡ g i) → total_of n f ≡ total_of n g
-unfolding total_of
-total-same zero f g same = refl
-total-same (suc n) f g same =
-    ap₂ (λ a b. a + b) (total-same n f g (λ i below. same i (omega (arith, below))))
-    (same n (omega arith))
 
 rows_are : (n : ℕ) (f : ℕ → ℕ) → sum_of_rows f n ≡ total_of n f
 unfolding total_of sum_of_rows
@@ -104,9 +98,9 @@ pub windows_are : (input : Plane) (own : List ℕ) (side n left top column row :
     total_of n (λ y. total_of n (λ x. squared_difference (sample_at input (left + x) (top + y))
     (sample_of (by_rows side own (column + x) (row + y)))))
 windows_are input own side n left top column row first second =
-    rows_are n _ ∙ total-same n _ _ (λ y below.
+    rows_are n _ ∙ total_of_same n _ _ (λ y below.
     row_is n _ _ (row_room _ input.width n y first below) (row_room _ side n y second below) ∙
-    total-same n _ _ (λ x inside.
+    total_of_same n _ _ (λ x inside.
     ap₂ squared_difference
     (window_sample input.samples (top * input.width + left) input.width x y _
     (place_of top y input.width left x))

@@ -10,12 +10,13 @@ use Rattle.hv_tree_model.specs.Sites.{squares}
 use Rattle.hv_tree_model.specs.Plans.{part, square_or_none}
 use Rattle.hv_recon_model.specs.Reconstruction.{Component}
 use Rattle.hv_recon_model.specs.SeenSamples.{Spot, SamplesAround, IsSeen, by_rows, comes_before, is_in_picture, sample_at_left, sample_above, sample_around, look_around}
-use Rattle.hv_recon.proofs.ChoiceLemmas.{same_where, other_where}
 use Rattle.hv_syntax.specs.Neighbours.{lists_of_plan}
 use Rattle.hv_syntax.specs.Squares.{own_square}
 use Rattle.hv_mode_model.specs.ModeDecision.{Before}
 use Rattle.hv_mode.specs.declared.task.Task.{Task}
 use Rattle.hv_mode.specs.Nodes.{Stands, SameSamples, SameBefore, Decides, SameInNode, CopiesNode}
+use Rattle.hv_lemmas.proofs.BooleanLemmas.{same_where, other_where}
+use Rattle.hv_lemmas.proofs.ListLemmas.{got_before, get_before}
 
 -- ---- lists that begin alike
 
@@ -23,19 +24,6 @@ pub take_less : {A : Type 0} (few many : ℕ) (xs ys : List A) → few ≤ many 
     take many xs ≡ take many ys → take few xs ≡ take few ys
 take_less few many xs ys less same =
     sym (take-take few many xs less) ∙ ap (take few) same ∙ take-take few many ys less
-
-get_of_take : {A : Type 0} (n : ℕ) (xs : List A) (i : ℕ) → i < n →
-    slice_get (take n xs) i ≡ slice_get xs i
-get_of_take zero xs i below = absurd (omega (arith, below))
-get_of_take (suc n) [] i below = refl
-get_of_take (suc n) (x ∷ xs) zero below = refl
-get_of_take (suc n) (x ∷ xs) (suc i) below = get_of_take n xs i (omega (arith, below))
-
-pub get_before : {A : Type 0} (n : ℕ) (xs ys : List A) (i : ℕ) → i < n →
-    take n xs ≡ take n ys → slice_get xs i ≡ slice_get ys i
-get_before {A = A} n xs ys i below same =
-    sym (get_of_take n xs i below) ∙ ap (λ (l : List A). slice_get l i) same ∙
-    get_of_take n ys i below
 
 -- with the same part behind them
 pub take_more : {A : Type 0} (from count : ℕ) (xs ys : List A) → take from xs ≡ take from ys →

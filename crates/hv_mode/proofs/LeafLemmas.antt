@@ -26,6 +26,9 @@ use Rattle.hv_mode_model.specs.ModeDecision.{Before, or_else, behind, decoded_be
 use Rattle.hv_mode.specs.declared.task.Task.{Task}
 use Rattle.hv_mode.specs.Nodes.{given_of, Stands, SameBefore, Decides}
 use Rattle.hv_mode.proofs.ChosenUnitLemmas.{leaf_chosen}
+use Rattle.hv_lemmas.proofs.ListLemmas.{got_before, get_before}
+use Rattle.hv_tree_model.proofs.NodeLemmas.{leaf_squares}
+use Rattle.hv_recon.proofs.CodedLeafLemmas.{some_squares}
 
 -- ---- the units of a leaf
 
@@ -61,19 +64,6 @@ squares_are (suc (suc zero)) few = refl
 squares_are (suc (suc (suc zero))) few = refl
 squares_are (suc (suc (suc (suc size)))) few = absurd (omega (arith, few))
 
-some_squares : (size : ℕ) → size ≤ 3 → 1 ≤ 4 ^ size
-some_squares zero few = lit≤ tt
-some_squares (suc zero) few = lit≤ tt
-some_squares (suc (suc zero)) few = lit≤ tt
-some_squares (suc (suc (suc zero))) few = lit≤ tt
-some_squares (suc (suc (suc (suc size)))) few = absurd (omega (arith, few))
-
-leaf_squares : (size : ℕ) (prediction : Prediction) (units : List TransformUnit) →
-    squares_of size (Leaf prediction units) ≡
-    replicate (squares size) (Coded (depth_of size) prediction)
-leaf_squares zero prediction units = refl
-leaf_squares (suc size) prediction units = refl
-
 one_unit : (size mode : ℕ) → is_whole size (Some (unit_of (3 - size) (IntraPred mode))) ≡ true
 one_unit zero mode = refl
 one_unit (suc size) mode = grind (arith, nat_tests)
@@ -92,18 +82,6 @@ some_side (suc (suc (suc zero))) few = lit≤ tt
 some_side (suc (suc (suc (suc size)))) few = absurd (omega (arith, few))
 
 -- ---- what comes before is kept
-
-get_of_start : {A : Type 0} (n : ℕ) (xs : List A) (i : ℕ) → i < n →
-    slice_get (take n xs) i ≡ slice_get xs i
-get_of_start n [] i below = grind (arith, common_steps)
-get_of_start zero (x ∷ xs) i below = absurd (omega (arith, below))
-get_of_start (suc n) (x ∷ xs) zero below = refl
-get_of_start (suc n) (x ∷ xs) (suc i) below = get_of_start n xs i (omega (arith, below))
-
-get_before : {A : Type 0} (n : ℕ) (xs ys : List A) (i : ℕ) → i < n → take n xs ≡ take n ys →
-    slice_get xs i ≡ slice_get ys i
-get_before n xs ys i below same =
-    sym (get_of_start n xs i below) ∙ ap (λ l. slice_get l i) same ∙ get_of_start n ys i below
 
 start_kept : (units new : List Unit) (from count : ℕ) (unit : Unit) → from ≤ length units →
     new ≡ with_units units from count unit → take from new ≡ take from units

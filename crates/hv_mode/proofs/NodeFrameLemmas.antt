@@ -24,7 +24,9 @@ use Rattle.hv_syntax.proofs.NamingLemmas.{depth_of_names, names_by_parts}
 use Rattle.hv_mode_model.specs.ModeDecision.{Before, or_else, decoded_behind}
 use Rattle.hv_mode.specs.declared.task.Task.{Task}
 use Rattle.hv_mode.specs.Nodes.{given_of, Stands, SameBefore, Decides}
-use Rattle.hv_mode.proofs.FrameLemmas.{take_less, get_before, same_trans, same_less, own_square_same, stands_since}
+use Rattle.hv_mode.proofs.FrameLemmas.{take_less, same_trans, same_less, own_square_same, stands_since}
+use Rattle.hv_lemmas.proofs.ListLemmas.{get_before}
+use Rattle.hv_tree_model.proofs.NodeLemmas.{squares_above_0}
 
 -- ---- plans that begin alike
 
@@ -96,14 +98,10 @@ leaf_by_unit most size address p q None few fits same = refl
 leaf_by_unit most size address p q (Some u) few fits same =
     ap (Leaf (prediction_of u.pred)) (node_units_same most size address p q few fits same)
 
-pub some_squares : (size : ℕ) → 1 ≤ squares size
-some_squares zero = omega arith
-some_squares (suc size) = let h = some_squares size in omega (arith, h)
-
 first_unit_same : (most size address : ℕ) (p q : Plan) → address + squares size ≤ most →
     SameFirst most p q → slice_get p.units address ≡ slice_get q.units address
 first_unit_same most size address p q fits same =
-    get_before most p.units q.units address (omega (arith, fits, some_squares size)) same.units
+    get_before most p.units q.units address (omega (arith, fits, squares_above_0 size)) same.units
 
 leaf_same : (most size address : ℕ) (p q : Plan) → size ≤ 3 → address + squares size ≤ most →
     SameFirst most p q →

@@ -32,10 +32,7 @@ use Rattle.hv_mode_model.proofs.SeenChoiceLemmas.{chosen_in_block}
 use Rattle.hv_mode.specs.declared.task.Task.{Task as BlockTask}
 use Rattle.hv_mode.specs.Nodes.{given_of, Stands, Decides}
 use Rattle.hv_mode.specs.Pictures.{plans_of, NameTheirUnits, given_by, before_block, IsSeenBefore, IsChosen, DecidesBlock, AreChosen}
-
--- as the code counts the blocks over so many samples
-pub blocks_counted : (samples : ℕ) → div_ceil samples 64 ≡ blocks_over samples
-blocks_counted samples = omega arith
+use Rattle.hv_tree_model.proofs.NodeLemmas.{blocks_counted}
 
 pub some_across : (width : ℕ) → 0 < width → 0 < blocks_over width
 some_across width some = omega (arith, some)

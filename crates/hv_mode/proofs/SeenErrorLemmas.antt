@@ -23,7 +23,8 @@ use Rattle.hv_recon.specs.DecodedNodes.{IsNodeOfBlock}
 use Rattle.hv_mode_model.specs.ModeDecision.{squared_difference, squared_differences, squared_errors}
 use Rattle.hv_mode.specs.declared.square.Square.{Square}
 use Rattle.hv_mode.specs.NodeErrors.{errors_by_rows, IsLumaOfNode, IsChromaOf, Fit}
-use Rattle.hv_mode.proofs.ErrorLemmas.{total-same}
+use Rattle.hv_sample_model.proofs.SumLemmas.{total_of_same}
+use Rattle.hv_recon.proofs.NodeLemmas.{node_of_block}
 
 -- ---- a square of one component
 
@@ -44,7 +45,7 @@ square_seen : (s : Spot) (around : SamplesAround) (own : List ℕ) (next : ℕ) 
     (sample_of (by_rows s.side own (p + x) (q + y))))) ≡
     squared_differences input samples (square_at (s.left + p) (s.top + q) log2)
 square_seen s around own next samples input p q log2 lies seen =
-    total-same (2 ^ log2) _ _ (λ y below. total-same (2 ^ log2) _ _ (λ x inside.
+    total_of_same (2 ^ log2) _ _ (λ y below. total_of_same (2 ^ log2) _ _ (λ x inside.
     let shifted_x : s.left + (p + x) ≡ s.left + p + x = omega arith in
     let shifted_y : s.top + (q + y) ≡ s.top + q + y = omega arith in
     ap (λ o. squared_difference (sample_at input (s.left + p + x) (s.top + q + y)) (sample_of o))
@@ -189,10 +190,6 @@ chroma_lies place size address node inside =
       down = omega (arith, inside.down, power);
       before = λ x y across down. chroma_before size address x y node across down;
     }
-
-pub node_of_block : (size address : ℕ) → IsNodeOfBlock size address → IsNode size address
-node_of_block size address node =
-    record { few = node.size_at_most; inside = node.inside; even = node.multiple }
 
 pub squares_fit : (place : Site) (input : Picture) (size address : ℕ) (luma chroma : Square) →
     IsNode size address → NodeInPicture place size address →

@@ -26,6 +26,7 @@ use Rattle.hv_model.specs.Reconstruction.{no_vectors, filtered_picture}
 use Rattle.hv_model.specs.IntraPictures.{picture_task, chosen_trees, unfiltered, working_picture, picture_sao, tree_units, coded_units}
 use Rattle.hv_model.specs.IntraLaws.{IntraUnitsMayBeCoded, IntraPicturesAreDecoded}
 use Rattle.hv_model.proofs.ChosenOffsetLemmas.{picture_valid}
+use Rattle.hv_tree_model.proofs.NodeLemmas.{length-sites_from}
 
 -- ---- units of trees and offsets, one of each for each block
 
@@ -65,12 +66,6 @@ module _ (slice_type : SliceKind) (references : ℕ) where
       ap (λ rest. sao ∷ rest) (offsets_kept places trees offsets are.1 (omega (arith, long)))
 
 -- ---- a picture
-
-length-sites_from : (count width height index : ℕ) →
-    length (sites_from count width height index) ≡ count
-length-sites_from zero width height index = refl
-length-sites_from (suc count) width height index =
-    ap suc (length-sites_from count width height (index + 1))
 
 pub length-sites : (width height : ℕ) →
     length (sites width height) ≡ blocks_over width * blocks_over height

@@ -15,6 +15,7 @@ use Rattle.hv_tree_model.specs.Validity.{AreValid}
 use Rattle.hv_unit_model.specs.Bins.{slice_bins}
 use Rattle.hv_slice_model.specs.Slices.{nal_unit_type_of, header_fields, header_in, picture_sites, word_behind, payload_of_slice, unit_of_slice}
 use Rattle.hv_lemmas.proofs.ComparisonLemmas.{suc_other_than_0}
+use Rattle.hv_tree_model.proofs.NodeLemmas.{length-sites_from}
 
 pub quantiser_in : (cfg : Settings) (count picture : ℕ) →
     qp_at cfg.qp (coded_of count cfg.levels picture).depth ≡ (header_in cfg count picture).qp
@@ -65,17 +66,12 @@ module _ (header : SliceHeader) (cfg : Settings) (units : List Site → List Cod
       AreValid kind references (sites width height) (units (sites width height))
   valid_in valid = rw (k, r, w, h) valid
 
--- the blocks of a padded picture
-length-from : (count width height index : ℕ) → length (sites_from count width height index) ≡ count
-length-from zero width height index = refl
-length-from (suc count) width height index = ap suc (length-from count width height (index + 1))
-
 pub length-blocks : (cfg : Settings) (width height : ℕ) → width ≡ padded_width cfg →
     height ≡ padded_height cfg →
     length (picture_sites cfg) ≡ blocks_over width * blocks_over height
 unfolding sites
 length-blocks cfg width height w h = rw (w, h)
-    (length-from (blocks_over (padded_width cfg) * blocks_over (padded_height cfg))
+    (length-sites_from (blocks_over (padded_width cfg) * blocks_over (padded_height cfg))
     (padded_width cfg) (padded_height cfg) 0)
 
 -- the unit with a payload

@@ -8,10 +8,6 @@ use Rattle.hv_tree_model.specs.Sites.{blocks_over, sites_from}
 use Rattle.hv_tree_model.specs.Validity.{is_empty}
 use Rattle.hv_packet.specs.BlankBins.{block_bins, blocks_bins, picture_bins}
 
--- as the code counts the blocks over so many samples
-pub blocks_counted : (samples : ℕ) → div_ceil samples 64 ≡ blocks_over samples
-blocks_counted samples = omega arith
-
 -- no block is behind the last one, and behind that one alone
 pub ends : (left index total : ℕ) → left ≡ total - index → index ≤ total →
     nat_eq left 0 ≡ nat_eq index total

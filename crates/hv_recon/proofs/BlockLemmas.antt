@@ -7,7 +7,7 @@ use Rattle.std.proofs.lemmas.Nat.{mod-mul-add, div-mul-add}
 use Rattle.std.proofs.lemmas.Bool.{cases_lt, and_parts, ltb-true, leb-true}
 use Rattle.std.proofs.lemmas.Bool.Decides.{nat_tests}
 use Rattle.std.proofs.lemmas.Option.{slice_get_past}
-use Rattle.hv_lemmas.proofs.ListLemmas.{length-tabulate}
+use Rattle.hv_lemmas.proofs.ListLemmas.{length-tabulate, there_is}
 use Rattle.hv_block.specs.declared.block.Block.{Block}
 use Rattle.hv_block.specs.declared.edges.Edges.{Edges}
 use Rattle.hv_block.specs.BlockEdges.{edges_of}
@@ -102,12 +102,6 @@ at_least_by side x b some h = elim (cases_lt (x / side) b) [
       ))
   | inr more ↦ more
 ]
-
-pub there_is : {A : Type 0} (xs : List A) (k : ℕ) → k < length xs →
-    (x : A) × (slice_get xs k ≡ Some x)
-there_is [] k h = absurd (omega (arith, h))
-there_is (x ∷ xs) zero h = (x, refl)
-there_is (x ∷ xs) (suc k) h = there_is xs k (omega (arith, h))
 
 -- ---- the edges of blocks
 

@@ -20,13 +20,3 @@ nested true true true c e h = h refl
 nested true true false c e h = refl
 nested true false b c e h = refl
 nested false a b c e h = refl
-
-pub same_where : {A : Type 0} (test : Bool) (a b c : A) → (test ≡ true → a ≡ b) →
-    cond test a c ≡ cond test b c
-same_where true a b c h = h refl
-same_where false a b c h = refl
-
-pub other_where : {A : Type 0} (test : Bool) (a b c : A) → (test ≡ false → b ≡ c) →
-    cond test a b ≡ cond test a c
-other_where true a b c h = refl
-other_where false a b c h = h refl

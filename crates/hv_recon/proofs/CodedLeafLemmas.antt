@@ -28,7 +28,7 @@ node_fits (suc (suc (suc zero))) address few below even =
     let node : address % 64 ≡ 0 = even in omega (arith, below, node)
 node_fits (suc (suc (suc (suc size)))) address few below even = absurd (omega (arith, few))
 
-some_squares : (size : ℕ) → size ≤ 3 → 1 ≤ 4 ^ size
+pub some_squares : (size : ℕ) → size ≤ 3 → 1 ≤ 4 ^ size
 some_squares zero few = lit≤ tt
 some_squares (suc zero) few = lit≤ tt
 some_squares (suc (suc zero)) few = lit≤ tt

@@ -10,8 +10,9 @@ use Rattle.hv_block.specs.declared.block.Block.{Block}
 use Rattle.hv_tree_model.specs.Sites.{address_of}
 use Rattle.hv_recon_model.specs.Reconstruction.{Component}
 use Rattle.hv_recon_model.specs.SeenSamples.{SamplesAround, IsSeen, comes_before, sample_inside, sample_around, is_behind_edges, is_in_picture, look_around, look_picture}
-use Rattle.hv_recon.proofs.ChoiceLemmas.{where_is, where_never, same_where}
+use Rattle.hv_recon.proofs.ChoiceLemmas.{where_is, where_never}
 use Rattle.hv_recon.proofs.BlockLemmas.{Part, Grid, spot_of, sample_in, sample_before, decoded_before, below_by, at_place}
+use Rattle.hv_lemmas.proofs.BooleanLemmas.{same_where}
 
 -- an address is one of 64
 address_below_64 : (column row : ℕ) → address_of column row < 64

@@ -18,8 +18,8 @@ use Rattle.hv_recon_model.proofs.DecodedLemmas.{Step, and_then}
 use Rattle.hv_recon_model.proofs.PictureLemmas.{corner_column, corner_row}
 use Rattle.hv_recon_model.specs.SeenSamples.{Spot, SamplesAround, IsSeen, luma_spot, chroma_spot, comes_before, sample_at_left, sample_above, sample_around, is_in_picture, look_around}
 use Rattle.hv_recon.specs.Leaves.{AreSeen, luma_around, cb_around, cr_around, leaf_of_plan}
-use Rattle.hv_recon.proofs.ChoiceLemmas.{same_where, other_where}
 use Rattle.hv_recon.specs.DecodedNodes.{node_of_plan, is_whole, IsNodeOfBlock, LeavesDecodeAsNodes, NodesOutsideDecodeNothing, SplitNodesDecodeByChildren, GreatestNodesAreBlocks}
+use Rattle.hv_lemmas.proofs.BooleanLemmas.{same_where, other_where}
 
 -- ---- a leaf
 

@@ -9,7 +9,7 @@ use Rattle.std.proofs.lemmas.Bool.{ltb-true}
 use Rattle.std.proofs.lemmas.Bool.Decides.{nat_tests}
 use Rattle.std.proofs.lemmas.Option.{slice_get-get_or, slice_get-map, get_or_from_slice_get}
 use Rattle.hv_lemmas.specs.Lists.{tabulate}
-use Rattle.hv_lemmas.proofs.ListLemmas.{tabulate-same}
+use Rattle.hv_lemmas.proofs.ListLemmas.{tabulate-same, there_is}
 use Rattle.hv_types.specs.Samples.{plane_of, plane_by_rows}
 use Rattle.hv_block.specs.declared.block.Block.{Block}
 use Rattle.hv_block.specs.Around.{neighbours_of}
@@ -24,8 +24,9 @@ use Rattle.hv_recon_model.proofs.WholeLocalityLemmas.{some_of_product}
 use Rattle.hv_recon.specs.Leaves.{AreSeen, luma_around, cb_around, cr_around, lists_of_plan}
 use Rattle.hv_recon.specs.DecodedBlocks.{trees_from, BlocksDecode, sample_of_blocks, AreOfBlocks, picture_of_blocks, SamplesAreThoseOfBlocks, PicturesAreTheirBlocks}
 use Rattle.hv_recon.proofs.ChoiceLemmas.{where_is, where_never, none_either}
-use Rattle.hv_recon.proofs.BlockLemmas.{Part, IsPart, Grid, AreWhole, sample_before, decoded_before, there_is, known_sample, seen_next}
+use Rattle.hv_recon.proofs.BlockLemmas.{Part, IsPart, Grid, AreWhole, sample_before, decoded_before, known_sample, seen_next}
 use Rattle.hv_recon.proofs.NextBlockLemmas.{LiesInBlock, decoded_next}
+use Rattle.hv_types.proofs.SampleLemmas.{plane_same}
 
 -- ---- the three components
 
@@ -277,14 +278,6 @@ samples_of_blocks width height qp blocks all =
     (r.0, r.1, are_of_blocks width height blocks all.whole all.count r.0 r.2)
 
 -- ---- the picture
-
-plane_same : (width height : ℕ) (f g : ℕ → ℕ → ℕ) →
-    ((x y : ℕ) → x < width → y < height → f x y ≡ g x y) →
-    plane_of width height f ≡ plane_of width height g
-plane_same width height f g same =
-    ap (λ rows. plane_by_rows width height (concat rows))
-    (tabulate-same height (λ y. tabulate width (λ x. f x y)) (λ y. tabulate width (λ x. g x y))
-    (λ y high. tabulate-same width (λ x. f x y) (λ x. g x y) (λ x wide. same x y wide high)))
 
 -- where every sample is that of its block
 pub picture_is_of_blocks : (width height : ℕ) (blocks : List Block) (d : Decoded) →

@@ -1,2 +1,3 @@
+pub mod SumLemmas
 mod WorkedSamples
 mod WorkedPredictions

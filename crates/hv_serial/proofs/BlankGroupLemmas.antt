@@ -18,11 +18,7 @@ use Rattle.hv_model.specs.IntraPictures.{input_picture, picture_unit, picture_sh
 use Rattle.hv_serial.specs.BlankGroups.{blank_unit, blank_units_of, grey_pictures}
 use Rattle.hv_serial.specs.Steps.{emitted}
 use Rattle.hv_serial.proofs.GreyLemmas.{grey_bytes}
-
-maps_same : {A B : Type 0} (f g : A → B) (xs : List A) → ((x : A) → f x ≡ g x) →
-    map f xs ≡ map g xs
-maps_same f g [] same = refl
-maps_same f g (x ∷ xs) same = ap₂ (λ y ys. y ∷ ys) (same x) (maps_same f g xs same)
+use Rattle.hv_lemmas.proofs.ListLemmas.{maps_same}
 
 -- there are as many padded pictures
 pub as_many : (pictures padded : List Picture) → map pad pictures ≡ padded →

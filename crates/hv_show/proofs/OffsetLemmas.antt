@@ -5,13 +5,7 @@ use Rattle.hv_plan.specs.declared.offsets.SaoKind.{SaoKind}
 use Rattle.hv_plan.specs.declared.offsets.SaoKind.TheVariants.{Off, Band, Edge}
 use Rattle.hv_plan.specs.declared.offsets.SaoComponent.{SaoComponent}
 use Rattle.hv_filter_model.specs.SampleAdaptiveOffset.{IsKind, IsBetween, least_offset, most_offset, offset_at, IsValidComponent}
-
-four : (P : ℕ → Type 0) → P 0 → P 1 → P 2 → P 3 → (i : ℕ) → i < 4 → P i
-four P a b c d zero below = a
-four P a b c d (suc zero) below = b
-four P a b c d (suc (suc zero)) below = c
-four P a b c d (suc (suc (suc zero))) below = d
-four P a b c d (suc (suc (suc (suc i)))) below = absurd (omega arith)
+use Rattle.hv_lemmas.proofs.ComputedLemmas.{each_of_four}
 
 -- offset i lies in the range of a kind
 abbrev IsIn : SaoKind → SaoComponent → ℕ → Type 0
@@ -23,7 +17,7 @@ kind_valid : (kind : SaoKind) (component : SaoComponent) → component.kind ≡ 
 kind_valid kind component is h a b c d = record {
   kind = subst IsKind (sym is) h;
   offsets = subst (λ k. (i : ℕ) → i < 4 → IsIn k component i) (sym is)
-      (four (IsIn kind component) a b c d);
+      (each_of_four (IsIn kind component) a b c d);
 }
 
 pub off_valid : (component : SaoComponent) → component.kind ≡ Off →

@@ -14,7 +14,7 @@ use Rattle.hv_syntax.specs.Blocks.{ends}
 use Rattle.hv_syntax.specs.Squares.{own_square, NamesNode}
 use Rattle.hv_syntax.proofs.NodeLemmas.{outside_tree, leaf_tree, split_tree, size_of_split, four_at}
 use Rattle.hv_unit_model.proofs.AroundLemmas.{length-tree_at}
-use Rattle.hv_tree_model.proofs.NodeLemmas.{squares_above_0}
+use Rattle.hv_tree_model.proofs.NodeLemmas.{squares_above_0, leaf_squares}
 
 -- ---- a row of squares by the first and the others
 pub each_from : (P : ℕ → Type 0) (from count : ℕ) → P from →
@@ -80,11 +80,6 @@ outside_of_names site plan size address all room outside names i h =
     refl
 
 -- ---- a coding unit
-leaf_squares : (size : ℕ) (p : Prediction) (units : List TransformUnit) →
-    squares_of size (Leaf p units) ≡ replicate (squares size) (Coded (depth_of size) p)
-leaf_squares zero p units = refl
-leaf_squares (suc size) p units = refl
-
 pub names_leaf : (site : Site) (plan : Plan) (size address : ℕ) (u : Unit) →
     is_outside site address ≡ false → slice_get plan.units address ≡ Some u →
     ends size u.depth ≡ true → u.depth ≡ depth_of size →

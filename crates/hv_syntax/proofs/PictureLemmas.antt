@@ -3,7 +3,7 @@ use Rattle.std.proofs.Common.{◌≡◌, ℕ, zero, suc, ◌+◌, ◌-◌, ◌/�
 use Rattle.std.specs.Prelude.{nat_lt, ◌&&◌, slice_get, Option, Some, None, is_some, option_map}
 use Rattle.std.proofs.lemmas.Bool.{false≢true, and_parts, ltb-true}
 use Rattle.std.proofs.lemmas.Option.{slice_get-map}
-use Rattle.hv_lemmas.proofs.ListLemmas.{length-tabulate}
+use Rattle.hv_lemmas.proofs.ListLemmas.{length-tabulate, got_before, there_is}
 use Rattle.hv_lemmas.proofs.OptionLemmas.{some_same}
 use Rattle.hv_plan.specs.declared.prediction.Unit.{Unit}
 use Rattle.hv_block.specs.declared.block.Block.{Block}
@@ -18,14 +18,6 @@ use Rattle.hv_unit_model.specs.PlanLaws.{AreEdges, AreSeen, LieAround, unit_of_p
 use Rattle.hv_syntax.specs.Neighbours.{lists_of_plan, unit_edges, around_of}
 
 -- ---- the front of a list
-
--- what stands in the list stands in its front
-pub got_before : {A : Type 0} (n : ℕ) (xs : List A) (i : ℕ) → i < n →
-    slice_get (take n xs) i ≡ slice_get xs i
-got_before zero xs i below = absurd (omega (arith, below))
-got_before (suc n) [] i below = refl
-got_before (suc n) (y ∷ xs) zero below = refl
-got_before (suc n) (y ∷ xs) (suc i) below = got_before n xs i (omega (arith, below))
 
 -- and the other way round
 pub got_in_front : {A : Type 0} (n : ℕ) (xs : List A) (i : ℕ) (x : A) →
@@ -44,12 +36,6 @@ pub take_with : {A : Type 0} (xs : List A) (i : ℕ) (x : A) → slice_get xs i 
 take_with [] i x e = absurd (false≢true (ap is_some e))
 take_with (y ∷ xs) zero x e = ap (λ z. z ∷ []) (some_same y x e)
 take_with (y ∷ xs) (suc i) x e = ap (λ list. y ∷ list) (take_with xs i x e)
-
-there_is : {A : Type 0} (xs : List A) (k : ℕ) → k < length xs →
-    (x : A) × (slice_get xs k ≡ Some x)
-there_is [] k h = absurd (omega (arith, h))
-there_is (x ∷ xs) zero h = (x, refl)
-there_is (x ∷ xs) (suc k) h = there_is xs k (omega (arith, h))
 
 -- ---- one of the blocks around
 

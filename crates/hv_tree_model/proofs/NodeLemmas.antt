@@ -1,12 +1,15 @@
 -- Nodes of a block's quadtree by the addresses of their corners (6.5.2): their squares, the nodes
 -- that they are split into, and the nodes of their size at their left and above them. All is
 -- computed over the 64 addresses.
-use Rattle.std.proofs.Common.{◌≡◌, ℕ, zero, suc, ◌+◌, ◌-◌, ◌*◌, ◌/◌, ◌%◌, ◌^◌, ◌<◌, ◌≤◌, Bool, true, refl, subst, arith}
-use Rattle.std.specs.Prelude.{nat_eq, nat_lt, not, ◌&&◌, ◌||◌}
+use Rattle.std.proofs.Common.{◌≡◌, ℕ, zero, suc, ◌+◌, ◌-◌, ◌*◌, ◌/◌, ◌%◌, ◌^◌, ◌<◌, ◌≤◌, Bool, true, refl, subst, arith, List, length, ap}
+use Rattle.std.specs.Prelude.{nat_eq, nat_lt, not, ◌&&◌, ◌||◌, replicate}
 use Rattle.std.proofs.lemmas.Bool.{and_parts, ltb-true, eqb-true, eq-eqb}
 use Rattle.hv_lemmas.proofs.ComputedLemmas.{all_below, holds_below}
 use Rattle.hv_lemmas.proofs.BooleanLemmas.{or_right}
-use Rattle.hv_tree_model.specs.Sites.{address_of, column_of, row_of, squares}
+use Rattle.hv_tree_model.specs.Sites.{address_of, column_of, row_of, squares, blocks_over, sites_from}
+use Rattle.std.specs.Int.{div_ceil}
+use Rattle.hv_tree_model.specs.Trees.{Prediction, TransformUnit, Leaf, depth_of}
+use Rattle.hv_tree_model.specs.EarlierUnits.{Coded, squares_of}
 
 pub record IsNode (size address : ℕ) : Type 0 where
   pub few : size ≤ 3
@@ -191,3 +194,22 @@ neighbours_of size address node =
       above_row = eqb-true _ _ r.0;
       above_column = eqb-true _ _ r.1;
     }
+
+-- a leaf's squares are all coded alike
+pub leaf_squares : (size : ℕ) (prediction : Prediction) (units : List TransformUnit) →
+    squares_of size (Leaf prediction units) ≡
+    replicate (squares size) (Coded (depth_of size) prediction)
+leaf_squares zero prediction units = refl
+leaf_squares (suc size) prediction units = refl
+
+-- ---- the blocks of a picture
+
+-- as the code counts the blocks over so many samples
+pub blocks_counted : (samples : ℕ) → div_ceil samples 64 ≡ blocks_over samples
+blocks_counted samples = omega arith
+
+pub length-sites_from : (count width height index : ℕ) →
+    length (sites_from count width height index) ≡ count
+length-sites_from zero width height index = refl
+length-sites_from (suc count) width height index =
+    ap suc (length-sites_from count width height (index + 1))

@@ -8,8 +8,8 @@ use Rattle.std.proofs.lemmas.List.Elements.{All-append}
 use Rattle.std.specs.Prelude.{All}
 use Rattle.std.proofs.lemmas.List.Edits.{length-between, get_or-between}
 use Rattle.hv_lemmas.specs.Lists.{tabulate}
-use Rattle.hv_lemmas.proofs.ListLemmas.{length-tabulate, get_or-tabulate, tabulate_push}
-use Rattle.hv_types.specs.Samples.{Plane, IsWhole, IsPlane, HasByteSamples, lengthened_row, sample_at, row_of, with_sample, plane_of, filled_plane, pad_plane, crop_plane}
+use Rattle.hv_lemmas.proofs.ListLemmas.{length-tabulate, get_or-tabulate, tabulate_push, tabulate-same}
+use Rattle.hv_types.specs.Samples.{Plane, IsWhole, IsPlane, HasByteSamples, lengthened_row, sample_at, row_of, with_sample, plane_of, filled_plane, pad_plane, crop_plane, plane_by_rows}
 
 pub length-rows : (w h : ℕ) (f : ℕ → ℕ → ℕ) → length
     (concat (tabulate h (λ y. tabulate w (λ x. f x y)))) ≡ w * h
@@ -281,3 +281,12 @@ pub HasByteSamples-crop : (p : Plane) (w h : ℕ) → HasByteSamples p → HasBy
 HasByteSamples-crop p w h all =
     All-rows (λ s. s < 256) w h (λ x y. sample_at p x y)
     (λ x y. byte_at p.samples (y * p.width + x) all)
+
+-- planes of functions that agree inside
+pub plane_same : (width height : ℕ) (f g : ℕ → ℕ → ℕ) →
+    ((x y : ℕ) → x < width → y < height → f x y ≡ g x y) →
+    plane_of width height f ≡ plane_of width height g
+plane_same width height f g same =
+    ap (λ rows. plane_by_rows width height (concat rows))
+    (tabulate-same height (λ y. tabulate width (λ x. f x y)) (λ y. tabulate width (λ x. g x y))
+    (λ y high. tabulate-same width (λ x. f x y) (λ x. g x y) (λ x wide. same x y wide high)))

@@ -1,7 +1,8 @@
 use Rattle.std.proofs.Common.{ap, ap₂, ◌+◌, ◌∙◌}
 use Rattle.hv_mode.specs.NodeErrors.{errors_by_rows}
-use Rattle.hv_mode.proofs.SeenErrorLemmas.{node_of_block, node_errors_seen}
+use Rattle.hv_mode.proofs.SeenErrorLemmas.{node_errors_seen}
 use Rattle.hv_mode.proofs.errors.node_errors.Goals as goal
+use Rattle.hv_recon.proofs.NodeLemmas.{node_of_block}
 
 pub returns-clause-value : goal.returns-clause-value
 returns-clause-value c = λ d seen.

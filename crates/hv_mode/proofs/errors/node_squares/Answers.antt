@@ -1,5 +1,6 @@
-use Rattle.hv_mode.proofs.SeenErrorLemmas.{node_of_block, squares_fit}
+use Rattle.hv_mode.proofs.SeenErrorLemmas.{squares_fit}
 use Rattle.hv_mode.proofs.errors.node_squares.Goals as goal
+use Rattle.hv_recon.proofs.NodeLemmas.{node_of_block}
 
 pub returns-clause-fit : goal.returns-clause-fit
 returns-clause-fit c =

@@ -2,8 +2,9 @@
 use Rattle.std.proofs.Common.{◌≡◌, ◌*◌, ◌<◌, ◌∙◌, refl, ap₂, length, arith}
 use Rattle.hv_tree_model.specs.Sites.{blocks_over}
 use Rattle.hv_mode.specs.Pictures.{task_of, AreChosen}
-use Rattle.hv_mode.proofs.PictureLemmas.{blocks_counted, one_more_chosen, all_named, trees_are, decoded_are}
+use Rattle.hv_mode.proofs.PictureLemmas.{one_more_chosen, all_named, trees_are, decoded_are}
 use Rattle.hv_mode.proofs.picture.decide_blocks.Goals as goal
+use Rattle.hv_tree_model.proofs.NodeLemmas.{blocks_counted}
 
 pub loop-index-init : goal.loop-index-init
 loop-index-init c = (refl, λ index block below got. absurd (omega (arith, below)))

@@ -3,8 +3,9 @@ use Rattle.std.proofs.Common.{◌≡◌, ◌*◌, ◌∙◌, ap₂, subst, arith
 use Rattle.hv_tables.specs.Bins.{Puts}
 use Rattle.hv_tree_model.specs.Sites.{blocks_over}
 use Rattle.hv_packet.proofs.PuttingLemmas.{leaves_less, leaves_nothing}
-use Rattle.hv_packet.proofs.SliceBinLemmas.{blocks_counted, all_bins, no_bins, first_bins}
+use Rattle.hv_packet.proofs.SliceBinLemmas.{all_bins, no_bins, first_bins}
 use Rattle.hv_packet.proofs.blank.put_slice_data.Goals as goal
+use Rattle.hv_tree_model.proofs.NodeLemmas.{blocks_counted}
 
 pub loop-index-preserved : goal.loop-index-preserved
 loop-index-preserved g c =

@@ -6,9 +6,9 @@ use Rattle.hv_tables.specs.Bins.{Puts}
 use Rattle.hv_tree_model.specs.Sites.{blocks_over}
 use Rattle.hv_packet.specs.BlockPlans.{plan_of, plans_of}
 use Rattle.hv_packet.proofs.PuttingLemmas.{leaves_less, leaves_nothing}
-use Rattle.hv_packet.proofs.SliceBinLemmas.{blocks_counted}
 use Rattle.hv_packet.proofs.PlannedLemmas.{planned_first, planned_all, planned_none}
 use Rattle.hv_packet.proofs.blocks.put_blocks.Goals as goal
+use Rattle.hv_tree_model.proofs.NodeLemmas.{blocks_counted}
 
 pub loop-index-preserved : goal.loop-index-preserved
 loop-index-preserved g c =

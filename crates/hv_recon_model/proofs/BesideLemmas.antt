@@ -1,22 +1,26 @@
 -- What is decoded in a square of the picture changes no sample beside it: transform units, coding
 -- units, and nodes of a quadtree, whatever they hold.
 use Rattle.std.proofs.Common.{◌≡◌, ℕ, zero, suc, ◌+◌, ◌-◌, ◌*◌, ◌/◌, ◌%◌, ◌^◌, ◌<◌, ◌≤◌, Bool, true, false, cond, List, [], ◌∷◌, refl, sym, ap, ◌∙◌, arith}
-use Rattle.std.specs.Prelude.{Option, Some, None, option_and_then, slice_index_or}
+use Rattle.std.specs.Prelude.{Option, Some, None, option_and_then, option_map, slice_index_or}
 use Rattle.std.proofs.Math.Nat.{pow-suc}
 use Rattle.std.proofs.lemmas.Bool.Decides.{nat_tests}
-use Rattle.hv_tree_model.specs.Trees.{Prediction, Intra, Inter, TransformUnit, Tree, Leaf, Split, Outside, side}
-use Rattle.hv_recon_model.specs.Reconstruction.{Component, Decoded, Square, square_at, quarter, is_in, with_block, decoded_block, decoded_unit, decoded_quarters, decoded_units, decoded_tree}
+use Rattle.hv_tables.specs.Quantisers.{chroma_qp}
+use Rattle.hv_sample_model.specs.InverseTransform.{residual}
+use Rattle.hv_tree_model.specs.Trees.{Prediction, TransformUnit, Tree, Leaf, Split, Outside, side}
+use Rattle.hv_recon_model.specs.Reconstruction.{Component, Decoded, Square, square_at, quarter, luma_planes, cb_planes, cr_planes, predicted_block, sum_of, is_in, with_block, all_decoded, decoded_block, decoded_unit, decoded_quarters, decoded_units, decoded_tree}
 use Rattle.hv_recon_model.proofs.DecodedLemmas.{Step, side_double}
 
 -- a place of luma lies beside the square of this corner and side
 pub record LiesBeside (left top n x y : ℕ) : Type 0 where
   pub beside : left ≤ x → x < left + n → top ≤ y → y < top + n → ⊥
 
--- all samples beside it are the same; that of chroma by the luma sample at the same place
+-- all samples beside it are the same, that of chroma by the luma sample at the same place, and so
+-- are the reference pictures
 pub record KeepBeside (left top n : ℕ) (d e : Decoded) : Type 0 where
   pub luma : (x y : ℕ) → LiesBeside left top n x y → e.luma x y ≡ d.luma x y
   pub cb : (x y : ℕ) → LiesBeside left top n (2 * x) (2 * y) → e.cb x y ≡ d.cb x y
   pub cr : (x y : ℕ) → LiesBeside left top n (2 * x) (2 * y) → e.cr x y ≡ d.cr x y
+  pub references : e.references ≡ d.references
 
 -- where something is decoded
 abbrev pub KeptBeside : ℕ → ℕ → ℕ → Decoded → Option Decoded → Type 0
@@ -24,7 +28,12 @@ KeptBeside left top n d None = Unit {0}
 KeptBeside left top n d (Some e) = KeepBeside left top n d e
 
 same_beside : (left top n : ℕ) (d : Decoded) → KeepBeside left top n d d
-same_beside left top n d = record { luma = λ x y h. refl; cb = λ x y h. refl; cr = λ x y h. refl }
+same_beside left top n d = record {
+  luma = λ x y h. refl;
+  cb = λ x y h. refl;
+  cr = λ x y h. refl;
+  references = refl;
+}
 
 -- a square in a square
 pub record LiesWithin (left top n x y m : ℕ) : Type 0 where
@@ -39,6 +48,7 @@ wider left top n x y m d e within kept = record {
   luma = λ u v h. kept.luma u v (smaller u v h);
   cb = λ u v h. kept.cb u v (smaller (2 * u) (2 * v) h);
   cr = λ u v h. kept.cr u v (smaller (2 * u) (2 * v) h);
+  references = kept.references;
 } where
   smaller : (u v : ℕ) → LiesBeside left top n u v → LiesBeside x y m u v
   smaller u v h = record {
@@ -59,6 +69,7 @@ behind_both left top n d e (Some f) first second = record {
   luma = λ x y h. second.luma x y h ∙ first.luma x y h;
   cb = λ x y h. second.cb x y h ∙ first.cb x y h;
   cr = λ x y h. second.cr x y h ∙ first.cr x y h;
+  references = second.references ∙ first.references;
 }
 
 then_beside : (left top n : ℕ) (f : Step) (d : Decoded) (r : Option Decoded) →
@@ -85,25 +96,52 @@ block_beside samples s block x y beside =
     (λ t. beside (grind (arith, nat_tests)) (grind (arith, nat_tests)) (grind (arith, nat_tests))
     (grind (arith, nat_tests)))
 
+-- a component behind a block of these samples
+abbrev pub Put : Type 0
+Put = List ℕ → Component
+
+-- where all three blocks are predicted
+blocks_beside : (left top n : ℕ) (d : Decoded) (luma cb cr : Option (List ℕ))
+    (put_luma put_cb put_cr : Put) →
+    ((block : List ℕ) (x y : ℕ) → LiesBeside left top n x y → put_luma block x y ≡ d.luma x y) →
+    ((block : List ℕ) (x y : ℕ) → LiesBeside left top n (2 * x) (2 * y) →
+    put_cb block x y ≡ d.cb x y) →
+    ((block : List ℕ) (x y : ℕ) → LiesBeside left top n (2 * x) (2 * y) →
+    put_cr block x y ≡ d.cr x y) →
+    KeptBeside left top n d
+    (all_decoded d.references (option_map put_luma luma) (option_map put_cb cb)
+    (option_map put_cr cr))
+blocks_beside left top n d None cb cr put_luma put_cb put_cr in_luma in_cb in_cr = tt
+blocks_beside left top n d (Some luma) None cr put_luma put_cb put_cr in_luma in_cb in_cr = tt
+blocks_beside left top n d (Some luma) (Some cb) None put_luma put_cb put_cr in_luma in_cb in_cr =
+    tt
+blocks_beside left top n d (Some luma) (Some cb) (Some cr) put_luma put_cb put_cr in_luma in_cb
+    in_cr =
+    record { luma = in_luma luma; cb = in_cb cb; cr = in_cr cr; references = refl }
+
 unit_beside : (qp : ℕ) (prediction : Prediction) (left top log2 n : ℕ) (t : TransformUnit)
     (d : Decoded) → n ≡ 2 ^ log2 → n ≡ 2 * 2 ^ (log2 - 1) → left % 2 ≡ 0 → top % 2 ≡ 0 →
     KeptBeside left top n d (decoded_unit qp prediction (square_at left top log2) t d)
 unfolding decoded_block
-unit_beside qp (Inter motion) left top log2 n t d luma_side chroma_side even_left even_top = tt
-unit_beside qp (Intra mode) left top log2 n t d luma_side chroma_side even_left even_top = record {
-  luma = λ x y h. block_beside d.luma (square_at left top log2) _ x y
-      (λ right across below down. h.beside right (omega (arith, across, luma_side)) below
-      (omega (arith, down, luma_side)));
-  cb = λ x y h. block_beside d.cb (square_at (left / 2) (top / 2) (log2 - 1)) _ x y
-      (beside_chroma x y h);
-  cr = λ x y h. block_beside d.cr (square_at (left / 2) (top / 2) (log2 - 1)) _ x y
-      (beside_chroma x y h);
-} where
-  beside_chroma : (x y : ℕ) → LiesBeside left top n (2 * x) (2 * y) → left / 2 ≤ x →
-      x < left / 2 + 2 ^ (log2 - 1) → top / 2 ≤ y → y < top / 2 + 2 ^ (log2 - 1) → ⊥
-  beside_chroma x y h right across below down =
-      h.beside (omega (arith, right, even_left)) (omega (arith, across, chroma_side, even_left))
-      (omega (arith, below, even_top)) (omega (arith, down, chroma_side, even_top))
+unit_beside qp prediction left top log2 n t d luma_side chroma_side even_left even_top =
+    let s : Square = square_at left top log2 in
+    let c : Square = square_at (left / 2) (top / 2) (log2 - 1) in
+    blocks_beside left top n d
+    (predicted_block prediction true (luma_planes d.references) d.luma s)
+    (predicted_block prediction false (cb_planes d.references) d.cb c)
+    (predicted_block prediction false (cr_planes d.references) d.cr c)
+    (λ block. with_block d.luma s (sum_of block (residual s.log2 qp t.luma)))
+    (λ block. with_block d.cb c (sum_of block (residual c.log2 (chroma_qp qp) t.cb)))
+    (λ block. with_block d.cr c (sum_of block (residual c.log2 (chroma_qp qp) t.cr)))
+    (λ block x y h. block_beside d.luma s _ x y (λ right across below down.
+    h.beside right (omega (arith, across, luma_side)) below (omega (arith, down, luma_side))))
+    (λ block x y h. block_beside d.cb c _ x y (beside_chroma x y h))
+    (λ block x y h. block_beside d.cr c _ x y (beside_chroma x y h)) where
+      beside_chroma : (x y : ℕ) → LiesBeside left top n (2 * x) (2 * y) → left / 2 ≤ x →
+          x < left / 2 + 2 ^ (log2 - 1) → top / 2 ≤ y → y < top / 2 + 2 ^ (log2 - 1) → ⊥
+      beside_chroma x y h right across below down =
+          h.beside (omega (arith, right, even_left)) (omega (arith, across, chroma_side, even_left))
+          (omega (arith, below, even_top)) (omega (arith, down, chroma_side, even_top))
 
 -- ---- a coding unit
 

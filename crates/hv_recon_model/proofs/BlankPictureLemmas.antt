@@ -6,6 +6,7 @@ use Rattle.std.specs.List.{list_all, concat}
 use Rattle.std.proofs.lemmas.Bool.{or_parts, and_parts, not-true}
 use Rattle.std.proofs.lemmas.Bool.Decides.{nat_tests}
 use Rattle.hv_lemmas.proofs.ListLemmas.{tabulate-same}
+use Rattle.hv_tables.specs.declared.bins.SliceKind.TheVariants.{I}
 use Rattle.hv_types.specs.Samples.{filled_plane, plane_by_rows}
 use Rattle.hv_plan.specs.Levels.{any_significant}
 use Rattle.hv_tree_model.specs.Trees.{Intra, Inter, TransformUnit, Tree, Leaf, Split, Outside, any_level, side, greatest_size}
@@ -139,11 +140,11 @@ plane_is width height samples there grey =
 
 pub blank_pictures_are_grey : BlankPicturesAreGrey
 unfolding unfiltered
-blank_pictures_are_grey width height qp references trees valid blank =
-    let all = every_sample width height qp references trees valid in
+blank_pictures_are_grey width height qp count references trees valid blank =
+    let all = every_sample I width height qp count references trees tt valid in
     let behind : AllGrey all.0 =
     subst GreyBehind all.1
-    (trees_grey qp (sites width height) trees nothing_decoded blank
+    (trees_grey qp (sites width height) trees (nothing_decoded references) blank
     (record { luma = λ x y. tt; cb = λ x y. tt; cr = λ x y. tt })) in
     let luma = plane_is width height all.0.luma all.2.luma behind.luma in
     let cb = plane_is (width / 2) (height / 2) all.0.cb all.2.cb behind.cb in

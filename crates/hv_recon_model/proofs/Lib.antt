@@ -9,4 +9,5 @@ pub mod SeenNodeLemmas
 pub mod WholeLocalityLemmas
 pub mod WindowLemmas
 mod WorkedBlankPictures
+mod WorkedInterUnits
 mod WorkedReconstructions

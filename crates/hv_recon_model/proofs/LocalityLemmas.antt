@@ -24,13 +24,19 @@ pub record KeepAt (At : ℕ → ℕ → Type 0) (d e : Decoded) : Type 0 where
   pub luma : (x y : ℕ) → At x y → e.luma x y ≡ d.luma x y
   pub cb : (x y : ℕ) → At (2 * x) (2 * y) → e.cb x y ≡ d.cb x y
   pub cr : (x y : ℕ) → At (2 * x) (2 * y) → e.cr x y ≡ d.cr x y
+  pub references : e.references ≡ d.references
 
 abbrev pub KeptAt : (ℕ → ℕ → Type 0) → Decoded → Option Decoded → Type 0
 KeptAt At d None = Unit {0}
 KeptAt At d (Some e) = KeepAt At d e
 
 kept_all : (At : ℕ → ℕ → Type 0) (d : Decoded) → KeepAt At d d
-kept_all At d = record { luma = λ x y h. refl; cb = λ x y h. refl; cr = λ x y h. refl }
+kept_all At d = record {
+  luma = λ x y h. refl;
+  cb = λ x y h. refl;
+  cr = λ x y h. refl;
+  references = refl;
+}
 
 block_then : (left top : ℕ) (At Later : ℕ → ℕ → Type 0) (d e : Decoded) (r : Option Decoded) →
     ((x y : ℕ) → At x y → LiesBeside left top 64 x y) → ((x y : ℕ) → At x y → Later x y) →
@@ -42,6 +48,7 @@ block_then left top At Later d e (Some f) one more first second = record {
       first.cb x y (one (2 * x) (2 * y) h);
   cr = λ x y h. second.cr x y (more (2 * x) (2 * y) h) ∙
       first.cr x y (one (2 * x) (2 * y) h);
+  references = second.references ∙ first.references;
 }
 
 blocks_then : (left top : ℕ) (At Later : ℕ → ℕ → Type 0) (f : Step) (d : Decoded)
@@ -176,7 +183,9 @@ block_of_window side column row left top d e is_left is_top same = record {
 }
 
 pub blocks_are_local : BlocksAreLocal
-blocks_are_local width height qp index trees others tree d e f some first second edges done =
+blocks_are_local width height qp index references trees others tree d e f some first second edges
+    done =
+    let start : Decoded = nothing_decoded references in
     let here : Site = site width height index in
     let column : ℕ = ctb_column here in
     let row : ℕ = ctb_row here in
@@ -184,10 +193,10 @@ blocks_are_local width height qp index trees others tree d e f some first second
     let top : ℕ = ctb_side * row in
     let At : ℕ → ℕ → Type 0 = BesideBlocks width height 0 index in
     let sites : List Site = sites_from index width height 0 in
-    let one = kept_by At nothing_decoded d (decoded_trees qp sites trees nothing_decoded) first
-    (trees_beside width height qp index 0 trees nothing_decoded) in
-    let two = kept_by At nothing_decoded e (decoded_trees qp sites others nothing_decoded) second
-    (trees_beside width height qp index 0 others nothing_decoded) in
+    let one = kept_by At start d (decoded_trees qp sites trees start) first
+    (trees_beside width height qp index 0 trees start) in
+    let two = kept_by At start e (decoded_trees qp sites others start) second
+    (trees_beside width height qp index 0 others start) in
     let chroma_later : (x y : ℕ) → top / 2 ≤ y → (left / 2 ≤ x) ⊎ (top / 2 + 32 ≤ y) →
     At (2 * x) (2 * y) =
     λ x y low part.
@@ -206,6 +215,7 @@ blocks_are_local width height qp index trees others tree d e f some first second
           (omega arith) edges.cr
           (λ x y low part. one.cr x y (chroma_later x y low part) ∙
           sym (two.cr x y (chroma_later x y low part)));
+      references = one.references ∙ sym two.references;
     } in
     let both = same_tree left top 64 (omega arith) (omega arith) refl qp greatest_size left top tree
     (omega arith) (omega arith) (record {

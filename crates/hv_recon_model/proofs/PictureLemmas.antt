@@ -6,11 +6,12 @@ use Rattle.std.proofs.Math.Dec.{lit<}
 use Rattle.std.proofs.Math.Nat.{mul-le-mul_right, add-mul, mul_comm}
 use Rattle.std.proofs.lemmas.Nat.{mod-mul-add, div-mul-add}
 use Rattle.std.proofs.lemmas.Bool.{cases_lt}
-use Rattle.hv_tables.specs.declared.bins.SliceKind.TheVariants.{I}
+use Rattle.hv_types.specs.declared.picture.Picture.{Picture}
+use Rattle.hv_tables.specs.declared.bins.SliceKind.{SliceKind}
 use Rattle.hv_tree_model.specs.Trees.{Tree, greatest_size}
 use Rattle.hv_tree_model.specs.Sites.{Site, site, sites, sites_from, blocks_over, ctb_side, ctb_column, ctb_row, column_of, row_of}
 use Rattle.hv_recon_model.specs.Reconstruction.{Decoded, nothing_decoded, decoded_trees}
-use Rattle.hv_recon_model.specs.ReconstructionLaws.{AreTrees, EverySampleIsDecoded}
+use Rattle.hv_recon_model.specs.ReconstructionLaws.{AreThere, AreTrees, EverySampleIsDecoded}
 use Rattle.hv_recon_model.proofs.DecodedLemmas.{Keep, keep_all, keep_then, Cover, cover_later, LiesIn, LiesAt, tree_behind}
 
 pub corner_column : column_of 0 ≡ 0
@@ -40,34 +41,39 @@ CoverBlock width height k d =
 record CoverBlocks (width height first count : ℕ) (d : Decoded) : Type 0 where
   block : (k : ℕ) → first ≤ k → k < first + count → CoverBlock width height k d
 
-trees_behind : (width height qp references count first : ℕ) (trees : List Tree) →
-    AreTrees I references (sites_from count width height first) trees → (d : Decoded) →
-    (e : Decoded) ×
-    (decoded_trees qp (sites_from count width height first) trees d ≡ Some e) ×
-    Keep d e × CoverBlocks width height first count e
-unfolding decoded_trees
-trees_behind width height qp references zero first [] valid d =
-    (d, refl, keep_all d, record { block = λ k least most. absurd (omega (arith, least, most)) })
-trees_behind width height qp references zero first (tree ∷ trees) valid d = absurd valid
-trees_behind width height qp references (suc count) first [] valid d = absurd valid
-trees_behind width height qp references (suc count) first (tree ∷ trees) valid d =
-    let here : Site = site width height first in
-    let one = tree_behind here qp references greatest_size 0 tree _ _ (whole_lies here) valid.0 d in
-    let rest = trees_behind width height qp references count (first + 1) trees valid.1 one.0 in (
-      rest.0,
-      ap (option_and_then (decoded_trees qp (sites_from count width height (first + 1)) trees))
-          one.1 ∙ rest.1,
-      keep_then d one.0 rest.0 one.2 rest.2,
-      record {
-        block = λ k least most. elim (cases_lt first k) [
-          | inl later ↦ rest.3.block k (omega (arith, later)) (omega (arith, most))
-          | inr now ↦
-              let same : first ≡ k = omega (arith, now, least) in
-              subst (λ n. CoverBlock width height n rest.0) same
-              (cover_later width height _ _ 64 one.0 rest.0 rest.2 one.3)
-        ];
-      },
-    )
+module _ (slice_type : SliceKind) (width height qp count : ℕ) (references : List Picture)
+    (there : AreThere slice_type count references) where
+  trees_behind : (blocks first : ℕ) (trees : List Tree) →
+      AreTrees slice_type count (sites_from blocks width height first) trees → (d : Decoded) →
+      d.references ≡ references →
+      (e : Decoded) ×
+      (decoded_trees qp (sites_from blocks width height first) trees d ≡ Some e) ×
+      Keep d e × CoverBlocks width height first blocks e
+  unfolding decoded_trees
+  trees_behind zero first [] valid d has =
+      (d, refl, keep_all d, record { block = λ k least most. absurd (omega (arith, least, most)) })
+  trees_behind zero first (tree ∷ trees) valid d has = absurd valid
+  trees_behind (suc blocks) first [] valid d has = absurd valid
+  trees_behind (suc blocks) first (tree ∷ trees) valid d has =
+      let here : Site = site width height first in
+      let one = tree_behind slice_type here qp count references there greatest_size 0 tree _ _
+      (whole_lies here) valid.0 d has in
+      let kept : Keep d one.0 = one.2 in
+      let rest = trees_behind blocks (first + 1) trees valid.1 one.0 (kept.references ∙ has) in (
+        rest.0,
+        ap (option_and_then (decoded_trees qp (sites_from blocks width height (first + 1)) trees))
+            one.1 ∙ rest.1,
+        keep_then d one.0 rest.0 kept rest.2,
+        record {
+          block = λ k least most. elim (cases_lt first k) [
+            | inl later ↦ rest.3.block k (omega (arith, later)) (omega (arith, most))
+            | inr now ↦
+                let same : first ≡ k = omega (arith, now, least) in
+                subst (λ n. CoverBlock width height n rest.0) same
+                (cover_later width height _ _ 64 one.0 rest.0 rest.2 one.3)
+          ];
+        },
+      )
 
 -- ---- a place of the picture lies in a block
 
@@ -114,9 +120,9 @@ module _ (width height : ℕ) where
 
 pub every_sample : EverySampleIsDecoded
 unfolding sites
-every_sample width height qp references trees valid =
-    let all = trees_behind width height qp references (blocks_over width * blocks_over height) 0
-    trees valid nothing_decoded in
+every_sample slice_type width height qp count references trees there valid =
+    let all = trees_behind slice_type width height qp count references there
+    (blocks_over width * blocks_over height) 0 trees valid (nothing_decoded references) refl in
     let block : (x y : ℕ) → x < width → y < height →
     CoverBlock width height (block_of width height x y) all.0 =
     λ x y across down. all.3.block (block_of width height x y) (omega arith)

@@ -7,6 +7,7 @@ use Rattle.std.proofs.lemmas.Bool.Decides.{nat_tests}
 use Rattle.std.proofs.Math.Nat.{pow-suc}
 use Rattle.hv_lemmas.proofs.BooleanLemmas.{or_right}
 use Rattle.hv_lemmas.proofs.ComputedLemmas.{all_below, holds_below}
+use Rattle.hv_types.specs.Samples.{Plane}
 use Rattle.hv_tree_model.specs.Trees.{Intra}
 use Rattle.hv_tree_model.specs.Sites.{address_of, column_of, row_of, squares}
 use Rattle.hv_tree_model.proofs.NodeLemmas.{IsNode}
@@ -17,19 +18,19 @@ use Rattle.hv_recon_model.proofs.SeenLemmas.{FitsIn, FitsInPicture, ComesBetween
 -- ---- what is decoded behind a transform block
 
 pub block_behind : (s : Spot) (around : SamplesAround) (old new : List ℕ)
-    (address next x y log2 mode : ℕ) (is_luma : Bool) (qp : ℕ) (levels : List ℤ)
-    (samples : Component) → FitsIn s.side x y log2 → FitsInPicture s x y log2 →
+    (address next x y log2 mode : ℕ) (is_luma : Bool) (qp : ℕ) (planes : List Plane)
+    (levels : List ℤ) (samples : Component) → FitsIn s.side x y log2 → FitsInPicture s x y log2 →
     ComesBetween s.side x y log2 address next →
     IsPut s.side x y log2
     (seen_block log2 mode is_luma qp levels (seen_line s around old address x y log2)) old new →
     IsSeen s around old address samples →
     (behind : Component) ×
-    (decoded_block (Intra mode) is_luma qp (square_at (s.left + x) (s.top + y) log2) levels samples ≡
-    Some behind) ×
+    (decoded_block (Intra mode) is_luma qp planes (square_at (s.left + x) (s.top + y) log2) levels
+    samples ≡ Some behind) ×
     IsSeen s around new next behind
 unfolding decoded_block
-block_behind s around old new address next x y log2 mode is_luma qp levels samples fits inside
-    between put seen =
+block_behind s around old new address next x y log2 mode is_luma qp planes levels samples fits
+    inside between put seen =
     let square = square_at (s.left + x) (s.top + y) log2 in
     let block = seen_block log2 mode is_luma qp levels (seen_line s around old address x y log2) in (
       with_block samples square block,

@@ -209,8 +209,9 @@ some_of_product (suc columns) rows n h = omega arith
 
 pub pictures_are_local : PicturesAreLocal
 unfolding sites
-pictures_are_local width height qp n trees others tree p q inside there there_too first second
-    edges =
+pictures_are_local width height qp n references trees others tree p q inside there there_too first
+    second edges =
+    let start : Decoded = nothing_decoded references in
     let total : ℕ = blocks_over width * blocks_over height in
     let count : ℕ = total - n - 1 in
     let some : 0 < blocks_over width =
@@ -219,9 +220,8 @@ pictures_are_local width height qp n trees others tree p q inside there there_to
     let row : ℕ = n / blocks_over width in
     let x0 : ℕ → ℕ = left width height qp in
     let y0 : ℕ → ℕ = top width height qp in
-    let s = split_at width height qp total 0 n trees tree nothing_decoded p inside there first in
-    let t = split_at width height qp total 0 n others tree nothing_decoded q inside there_too second
-    in
+    let s = split_at width height qp total 0 n trees tree start p inside there first in
+    let t = split_at width height qp total 0 n others tree start q inside there_too second in
     let zero_is : 0 + n ≡ n = omega arith in
     let s_block : decoded_tree qp greatest_size (x0 n) (y0 n) tree s.before ≡ Some s.behind =
     subst (λ k. decoded_tree qp greatest_size (x0 k) (y0 k) tree s.before ≡ Some s.behind) zero_is
@@ -268,7 +268,7 @@ pictures_are_local width height qp n trees others tree p q inside there there_to
           (λ x y h. s_kept.cr x y (early_chroma x y h))
           (λ x y h. t_kept.cr x y (early_chroma x y h)) edges.cr;
     } in
-    let r = blocks_are_local width height qp n trees others tree s.before t.before s.behind some
+    let r = blocks_are_local width height qp n references trees others tree s.before t.before s.behind some
     s.first_part t.first_part before s_block in
     let same_end : r.0 ≡ t.behind = some_same r.0 t.behind (sym r.1 ∙ t_block) in
     let same : SameBlockThere (site width height n) s.behind t.behind =

@@ -1,17 +1,18 @@
 -- What is decoded in a square of the picture reads nothing but a window around it: where two
 -- pictures are the same in the window, they are the same in it behind the square.
-use Rattle.std.proofs.Common.{◌≡◌, ℕ, zero, suc, ◌+◌, ◌-◌, ◌*◌, ◌/◌, ◌%◌, ◌^◌, ◌<◌, ◌≤◌, Bool, true, false, cond, List, [], ◌∷◌, ◌++◌, sym, ap, ap₂, arith, inl, inr}
-use Rattle.std.specs.Prelude.{nat_eq, ◌||◌, slice_index_or, Option, Some, None, option_and_then, ℤ}
+use Rattle.std.proofs.Common.{◌≡◌, ℕ, zero, suc, ◌+◌, ◌-◌, ◌*◌, ◌/◌, ◌%◌, ◌^◌, ◌<◌, ◌≤◌, Bool, true, false, cond, List, [], ◌∷◌, ◌++◌, refl, sym, ap, ap₂, subst, ◌∙◌, arith, inl, inr}
+use Rattle.std.specs.Prelude.{nat_eq, ◌||◌, slice_index_or, Option, Some, None, option_and_then, option_map, ℤ}
 use Rattle.std.proofs.lemmas.Bool.{cases_lt}
 use Rattle.std.proofs.lemmas.Bool.Decides.{nat_tests}
 use Rattle.hv_lemmas.proofs.ListLemmas.{tabulate-same}
+use Rattle.hv_types.specs.Samples.{Plane}
 use Rattle.hv_sample_model.specs.IntraPrediction.{substituted, predicted}
 use Rattle.hv_sample_model.specs.InverseTransform.{residual}
 use Rattle.hv_tables.specs.Quantisers.{chroma_qp}
 use Rattle.hv_tree_model.specs.Trees.{Prediction, Intra, Inter, TransformUnit, Tree, Leaf, Split, Outside, side}
-use Rattle.hv_recon_model.specs.Reconstruction.{Component, Decoded, Square, square_at, quarter, is_in, left_of, above_of, neighbours, sum_of, decoded_block, decoded_unit, decoded_quarters, decoded_units, decoded_tree}
+use Rattle.hv_recon_model.specs.Reconstruction.{Component, Decoded, Square, square_at, quarter, is_in, with_block, luma_planes, cb_planes, cr_planes, left_of, above_of, neighbours, predicted_block, sum_of, all_decoded, decoded_block, decoded_unit, decoded_quarters, decoded_units, decoded_tree}
 use Rattle.hv_recon_model.proofs.DecodedLemmas.{Step, side_double}
-use Rattle.hv_recon_model.proofs.BesideLemmas.{LiesWithin, sides}
+use Rattle.hv_recon_model.proofs.BesideLemmas.{LiesWithin, Put, sides}
 
 -- the column and the row before a square, and up to a side behind it
 pub record IsWindowed (left top n x y : ℕ) : Type 0 where
@@ -88,23 +89,21 @@ module _ (left top n : ℕ) (d e : Component) (same : SameIn left top n d e) (s 
       (λ i below. same_left_of (n - i) (omega arith)))
       (tabulate-same n (above_of d s) (above_of e s) (λ i below. same_above_of i below))
 
--- behind a block: both are decoded, or none is
-abbrev pub SameBehind : ℕ → ℕ → ℕ → Option Component → Option Component → Type 0
-SameBehind left top n None None = Unit {0}
-SameBehind left top n None (Some f) = ⊥
-SameBehind left top n (Some d) None = ⊥
-SameBehind left top n (Some d) (Some e) = SameIn left top n d e
+-- what a block is predicted as, from the same planes
+same_predicted : (left top n : ℕ) (prediction : Prediction) (luma : Bool) (planes : List Plane)
+    (s : Square) (d e : Component) → SameIn left top n d e → LiesInWindow left top n s →
+    predicted_block prediction luma planes d s ≡ predicted_block prediction luma planes e s
+same_predicted left top n (Intra mode) luma planes s d e same lies =
+    ap (λ line. Some (predicted s.log2 mode luma (substituted line)))
+    (same_neighbours left top n d e same s lies)
+same_predicted left top n (Inter motion) luma planes s d e same lies = refl
 
-same_block : (left top n qp : ℕ) (prediction : Prediction) (luma : Bool) (s : Square)
-    (levels : List ℤ) (d e : Component) → SameIn left top n d e → LiesInWindow left top n s →
-    SameBehind left top n (decoded_block prediction luma qp s levels d)
-    (decoded_block prediction luma qp s levels e)
-unfolding decoded_block
-same_block left top n qp (Inter motion) luma s levels d e same lies = tt
-same_block left top n qp (Intra mode) luma s levels d e same lies = λ x y inside.
-    ap₂ (λ list old. cond (is_in s x y) (Some (slice_index_or (sum_of (predicted s.log2 mode luma
-    (substituted list)) (residual s.log2 qp levels)) ((y - s.y) * 2 ^ s.log2 + (x - s.x)) 0)) old)
-    (same_neighbours left top n d e same s lies) (same x y inside)
+-- behind a block of these samples
+same_put : (left top n : ℕ) (s : Square) (samples : List ℕ) (d e : Component) →
+    SameIn left top n d e → SameIn left top n (with_block d s samples) (with_block e s samples)
+same_put left top n s samples d e same x y inside =
+    ap (λ old. cond (is_in s x y)
+    (Some (slice_index_or samples ((y - s.y) * 2 ^ s.log2 + (x - s.x)) 0)) old) (same x y inside)
 
 -- ---- the three components
 
@@ -112,6 +111,7 @@ pub record SameAround (left top n : ℕ) (d e : Decoded) : Type 0 where
   pub luma : SameIn left top n d.luma e.luma
   pub cb : SameIn (left / 2) (top / 2) (n / 2) d.cb e.cb
   pub cr : SameIn (left / 2) (top / 2) (n / 2) d.cr e.cr
+  pub references : d.references ≡ e.references
 
 abbrev pub BothSame : ℕ → ℕ → ℕ → Option Decoded → Option Decoded → Type 0
 BothSame left top n None None = Unit {0}
@@ -129,6 +129,28 @@ both_then left top n f (Some d) (Some e) first second = second d e first
 
 -- ---- a transform unit
 
+-- where all three blocks are predicted alike, both are decoded, or none is
+same_blocks : (left top n : ℕ) (d e : Decoded) (luma cb cr : Option (List ℕ))
+    (luma_d cb_d cr_d luma_e cb_e cr_e : Put) →
+    ((block : List ℕ) → SameIn left top n (luma_d block) (luma_e block)) →
+    ((block : List ℕ) → SameIn (left / 2) (top / 2) (n / 2) (cb_d block) (cb_e block)) →
+    ((block : List ℕ) → SameIn (left / 2) (top / 2) (n / 2) (cr_d block) (cr_e block)) →
+    d.references ≡ e.references →
+    BothSame left top n
+    (all_decoded d.references (option_map luma_d luma) (option_map cb_d cb) (option_map cr_d cr))
+    (all_decoded e.references (option_map luma_e luma) (option_map cb_e cb) (option_map cr_e cr))
+same_blocks left top n d e None cb cr luma_d cb_d cr_d luma_e cb_e cr_e in_luma in_cb in_cr same =
+    tt
+same_blocks left top n d e (Some luma) None cr luma_d cb_d cr_d luma_e cb_e cr_e in_luma in_cb in_cr
+    same =
+    tt
+same_blocks left top n d e (Some luma) (Some cb) None luma_d cb_d cr_d luma_e cb_e cr_e in_luma
+    in_cb in_cr same =
+    tt
+same_blocks left top n d e (Some luma) (Some cb) (Some cr) luma_d cb_d cr_d luma_e cb_e cr_e in_luma
+    in_cb in_cr same =
+    record { luma = in_luma luma; cb = in_cb cb; cr = in_cr cr; references = same }
+
 module _ (left top n : ℕ) (even_left : left % 2 ≡ 0) (even_top : top % 2 ≡ 0)
     (even_n : n % 2 ≡ 0) (qp : ℕ) where
   same_unit : (prediction : Prediction) (x y log2 m : ℕ) (t : TransformUnit) (d e : Decoded) →
@@ -137,8 +159,7 @@ module _ (left top n : ℕ) (even_left : left % 2 ≡ 0) (even_top : top % 2 ≡
       BothSame left top n (decoded_unit qp prediction (square_at x y log2) t d)
       (decoded_unit qp prediction (square_at x y log2) t e)
   unfolding decoded_block
-  same_unit (Inter motion) x y log2 m t d e luma_side chroma_side even_x even_y within same = tt
-  same_unit (Intra mode) x y log2 m t d e luma_side chroma_side even_x even_y within same =
+  same_unit prediction x y log2 m t d e luma_side chroma_side even_x even_y within same =
       let s : Square = square_at x y log2 in
       let c : Square = square_at (x / 2) (y / 2) (log2 - 1) in
       let luma : LiesInWindow left top n s = record {
@@ -153,13 +174,51 @@ module _ (left top n : ℕ) (even_left : left % 2 ≡ 0) (even_top : top % 2 ≡
         across = omega (arith, within.across, chroma_side, even_x, even_left, even_n);
         down = omega (arith, within.down, chroma_side, even_y, even_top, even_n);
       } in
-      record {
-        luma = same_block left top n qp (Intra mode) true s t.luma d.luma e.luma same.luma luma;
-        cb = same_block (left / 2) (top / 2) (n / 2) (chroma_qp qp) (Intra mode) false c t.cb d.cb
-            e.cb same.cb chroma;
-        cr = same_block (left / 2) (top / 2) (n / 2) (chroma_qp qp) (Intra mode) false c t.cr d.cr
-            e.cr same.cr chroma;
-      }
+      let block_of : Bool → List Plane → Component → Square → Option (List ℕ) =
+      predicted_block prediction in
+      let in_luma : block_of true (luma_planes d.references) d.luma s ≡
+      block_of true (luma_planes e.references) e.luma s =
+      ap (λ r. block_of true (luma_planes r) d.luma s) same.references ∙
+      same_predicted left top n prediction true (luma_planes e.references) s d.luma e.luma same.luma
+      luma in
+      let in_cb : block_of false (cb_planes d.references) d.cb c ≡
+      block_of false (cb_planes e.references) e.cb c =
+      ap (λ r. block_of false (cb_planes r) d.cb c) same.references ∙
+      same_predicted (left / 2) (top / 2) (n / 2) prediction false (cb_planes e.references) c d.cb
+      e.cb same.cb chroma in
+      let in_cr : block_of false (cr_planes d.references) d.cr c ≡
+      block_of false (cr_planes e.references) e.cr c =
+      ap (λ r. block_of false (cr_planes r) d.cr c) same.references ∙
+      same_predicted (left / 2) (top / 2) (n / 2) prediction false (cr_planes e.references) c d.cr
+      e.cr same.cr chroma in
+      let put : Component → Square → ℕ → List ℤ → Put =
+      λ samples place quantiser levels block.
+      with_block samples place (sum_of block (residual place.log2 quantiser levels)) in
+      subst (λ o. BothSame left top n
+      (all_decoded d.references (option_map (put d.luma s qp t.luma) o)
+      (option_map (put d.cb c (chroma_qp qp) t.cb)
+      (block_of false (cb_planes d.references) d.cb c))
+      (option_map (put d.cr c (chroma_qp qp) t.cr)
+      (block_of false (cr_planes d.references) d.cr c)))
+      (decoded_unit qp prediction s t e)) (sym in_luma)
+      (subst (λ o. BothSame left top n
+      (all_decoded d.references
+      (option_map (put d.luma s qp t.luma) (block_of true (luma_planes e.references) e.luma s))
+      (option_map (put d.cb c (chroma_qp qp) t.cb) o)
+      (option_map (put d.cr c (chroma_qp qp) t.cr)
+      (block_of false (cr_planes d.references) d.cr c)))
+      (decoded_unit qp prediction s t e)) (sym in_cb)
+      (subst (λ o. BothSame left top n
+      (all_decoded d.references
+      (option_map (put d.luma s qp t.luma) (block_of true (luma_planes e.references) e.luma s))
+      (option_map (put d.cb c (chroma_qp qp) t.cb)
+      (block_of false (cb_planes e.references) e.cb c))
+      (option_map (put d.cr c (chroma_qp qp) t.cr) o))
+      (decoded_unit qp prediction s t e)) (sym in_cr)
+      (same_blocks left top n d e _ _ _ _ _ _ _ _ _
+      (λ block. same_put left top n s _ d.luma e.luma same.luma)
+      (λ block. same_put (left / 2) (top / 2) (n / 2) c _ d.cb e.cb same.cb)
+      (λ block. same_put (left / 2) (top / 2) (n / 2) c _ d.cr e.cr same.cr) same.references)))
 
   -- ---- a coding unit
 

@@ -69,7 +69,7 @@ two_units =
     (Split (Split (of_mode 1) (of_mode 1) Outside Outside) Outside Outside Outside)
     Outside Outside Outside
 
-blank_16x8 : unfiltered 16 8 51 (sites 16 8) (two_units ∷ []) ≡ Some (grey 16 8)
+blank_16x8 : unfiltered 16 8 51 [] (sites 16 8) (two_units ∷ []) ≡ Some (grey 16 8)
 unfolding unfiltered decoded_trees decoded_tree decoded_block predicted residual tabulate sum_of
     total_of sites no_units no_levels
 blank_16x8 = refl

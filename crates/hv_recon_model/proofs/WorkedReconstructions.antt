@@ -6,7 +6,7 @@ use Rattle.hv_lemmas.specs.Lists.{tabulate}
 use Rattle.hv_sample_model.specs.Blocks.{sum_of, total_of}
 use Rattle.hv_sample_model.specs.IntraPrediction.{predicted}
 use Rattle.hv_sample_model.specs.InverseTransform.{residual}
-use Rattle.hv_tree_model.specs.Trees.{Motion, Intra, Inter, TransformUnit, Tree, Leaf, Split, Outside, no_levels, no_units}
+use Rattle.hv_tree_model.specs.Trees.{Intra, TransformUnit, Tree, Leaf, Split, Outside, no_levels}
 use Rattle.hv_tree_model.specs.Sites.{sites}
 use Rattle.hv_recon_model.specs.Reconstruction.{Component, Decoded, nothing_decoded, decoded_block, decoded_tree, decoded_trees}
 
@@ -34,7 +34,7 @@ four_units =
     decoded_tree 32 1 0 0
     (Split (leaf_8 1 (pos 3) (pos 3)) (leaf_8 1 (pos 3) (pos 0)) (leaf_8 34 (pos 0) (pos 0))
     (leaf_8 2 (pos 0) (pos 0)))
-    nothing_decoded
+    (nothing_decoded [])
 
 luma_of_four_units :
     option_map (λ d. samples_at
@@ -69,20 +69,10 @@ quarters_of_64 :
     (decoded_tree 32 3 0 0
     (Leaf (Intra 1)
     (quarter_of (pos 10) ∷ quarter_of (pos 0) ∷ quarter_of (pos 0) ∷ quarter_of (pos 10) ∷ []))
-    nothing_decoded) ≡
+    (nothing_decoded [])) ≡
     Some (Some 136 ∷ Some 136 ∷ Some 136 ∷ Some 144 ∷ [])
 unfolding decoded_tree decoded_block predicted residual tabulate sum_of total_of no_levels
 quarters_of_64 = refl
-
--- a unit that is predicted from another picture isn't built
-abbrev still : Motion
-still = record { ref_idx_l0 = 0; mvp_l0_flag = 0; MvdL0 = record { x = pos 0; y = pos 0 } }
-
-inter_unit :
-    decoded_tree 32 0 0 0
-    (Leaf (Inter still) (no_units 0)) nothing_decoded ≡ None
-unfolding decoded_tree decoded_block no_units
-inter_unit = refl
 
 -- Two coding tree blocks, in raster order: the last unit of the first one has 10 more, and the
 -- second block follows it. A picture of 72x8 has 8 units in its first block, and one in its second.
@@ -103,7 +93,7 @@ two_blocks :
     option_map (λ d. samples_at
     ((55, 0) ∷ (56, 0) ∷ (63, 7) ∷ (64, 0) ∷ (71, 7) ∷ (72, 0) ∷ []) d.luma)
     (decoded_trees 32 (sites 72 8) (row_of_8 (leaf_8 1 (pos 3) (pos 0)) ∷ second_block ∷ [])
-    nothing_decoded) ≡
+    (nothing_decoded [])) ≡
     Some (Some 128 ∷ Some 138 ∷ Some 138 ∷ Some 138 ∷ Some 138 ∷ None ∷ [])
 unfolding decoded_trees decoded_tree decoded_block predicted residual tabulate sum_of total_of sites
 two_blocks = refl

@@ -26,9 +26,9 @@ grey width height = record {
   cr = filled_plane (width / 2) (height / 2) 128;
 }
 
--- at any quantiser
+-- at any quantiser, whatever the reference pictures are
 abbrev pub BlankPicturesAreGrey : Type 0
 BlankPicturesAreGrey =
-    (width height qp references : ℕ) (trees : List Tree) →
-    AreTrees I references (sites width height) trees → list_all is_blank_tree trees ≡ true →
-    unfiltered width height qp (sites width height) trees ≡ Some (grey width height)
+    (width height qp count : ℕ) (references : List Picture) (trees : List Tree) →
+    AreTrees I count (sites width height) trees → list_all is_blank_tree trees ≡ true →
+    unfiltered width height qp references (sites width height) trees ≡ Some (grey width height)

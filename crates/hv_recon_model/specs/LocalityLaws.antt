@@ -1,5 +1,7 @@
--- The four blocks around a coding tree block determine what is decoded in it.
+-- The four blocks around a coding tree block, and the reference pictures, determine what is decoded
+-- in it.
 use Rattle.std.specs.Prelude.{◌≡◌, ℕ, ◌+◌, ◌-◌, ◌*◌, ◌/◌, ◌<◌, List, slice_get, Some}
+use Rattle.hv_types.specs.declared.picture.Picture.{Picture}
 use Rattle.hv_tree_model.specs.Trees.{Tree, greatest_size}
 use Rattle.hv_tree_model.specs.Sites.{Site, site, sites, sites_from, blocks_over, ctb_side, ctb_column, ctb_row}
 use Rattle.hv_recon_model.specs.Reconstruction.{Component, Decoded, nothing_decoded, decoded_tree, decoded_trees}
@@ -35,15 +37,17 @@ pub record SameBlockThere (here : Site) (d e : Decoded) : Type 0 where
   pub cb : SameBlock (ctb_side / 2) (ctb_column here) (ctb_row here) d.cb e.cb
   pub cr : SameBlock (ctb_side / 2) (ctb_column here) (ctb_row here) d.cr e.cr
 
--- Two pictures of the same size and quantiser, whatever the blocks before this one hold in each:
--- where they have the same samples in the edges of the blocks around, the same tree is decoded to
--- the same samples, or in neither.
+-- Two pictures of the same size, quantiser and references, whatever the blocks before this one hold
+-- in each: where they have the same samples in the edges of the blocks around, the same tree is
+-- decoded to the same samples, or in neither.
 abbrev pub BlocksAreLocal : Type 0
 BlocksAreLocal =
-    (width height qp index : ℕ) (trees others : List Tree) (tree : Tree) (d e f : Decoded) →
-    0 < blocks_over width →
-    decoded_trees qp (sites_from index width height 0) trees nothing_decoded ≡ Some d →
-    decoded_trees qp (sites_from index width height 0) others nothing_decoded ≡ Some e →
+    (width height qp index : ℕ) (references : List Picture) (trees others : List Tree)
+    (tree : Tree) (d e f : Decoded) → 0 < blocks_over width →
+    decoded_trees qp (sites_from index width height 0) trees (nothing_decoded references) ≡
+    Some d →
+    decoded_trees qp (sites_from index width height 0) others (nothing_decoded references) ≡
+    Some e →
     SameEdgesAround (site width height index) d e →
     decoded_tree qp greatest_size (ctb_side * ctb_column (site width height index))
     (ctb_side * ctb_row (site width height index)) tree d ≡ Some f →
@@ -56,10 +60,10 @@ BlocksAreLocal =
 -- tree at this number, and the same samples in the edges around, they have the same samples there.
 abbrev pub PicturesAreLocal : Type 0
 PicturesAreLocal =
-    (width height qp index : ℕ) (trees others : List Tree) (tree : Tree) (p q : Decoded) →
-    index < blocks_over width * blocks_over height →
+    (width height qp index : ℕ) (references : List Picture) (trees others : List Tree)
+    (tree : Tree) (p q : Decoded) → index < blocks_over width * blocks_over height →
     slice_get trees index ≡ Some tree → slice_get others index ≡ Some tree →
-    decoded_trees qp (sites width height) trees nothing_decoded ≡ Some p →
-    decoded_trees qp (sites width height) others nothing_decoded ≡ Some q →
+    decoded_trees qp (sites width height) trees (nothing_decoded references) ≡ Some p →
+    decoded_trees qp (sites width height) others (nothing_decoded references) ≡ Some q →
     SameEdgesAround (site width height index) p q →
     SameBlockThere (site width height index) p q

@@ -1,12 +1,13 @@
--- The decoded picture before the in-loop filters (8.4, 8.6): every transform block of the picture,
--- in decoding order, is predicted from samples that were decoded before it, and its residual is
--- added. So far intra prediction alone.
-use Rattle.std.specs.Prelude.{ℕ, zero, suc, ◌+◌, ◌-◌, ◌*◌, ◌/◌, ◌^◌, Bool, true, false, cond, nat_eq, nat_lt, nat_le, ◌&&◌, ◌||◌, List, [], ◌∷◌, ◌++◌, slice_index_or, Option, Some, None, option_and_then, option_map, ℤ, pos, ◌+ℤ◌}
+-- The decoded picture before the in-loop filters (8.4 to 8.6): every transform block of the picture,
+-- in decoding order, is predicted from samples that were decoded before it or from a reference
+-- picture, and its residual is added.
+use Rattle.std.specs.Prelude.{ℕ, zero, suc, ◌+◌, ◌-◌, ◌*◌, ◌/◌, ◌^◌, Bool, true, false, cond, nat_eq, nat_lt, nat_le, ◌&&◌, ◌||◌, List, [], ◌∷◌, ◌++◌, map, slice_get, slice_index_or, Option, Some, None, option_and_then, option_map, ℤ, pos, ◌+ℤ◌}
 use Rattle.hv_lemmas.specs.Clipping.{clip1}
 use Rattle.hv_lemmas.specs.Lists.{tabulate}
 use Rattle.hv_types.specs.declared.picture.Picture.{Picture}
 use Rattle.hv_types.specs.Samples.{Plane, plane_of}
 use Rattle.hv_tables.specs.Quantisers.{chroma_qp}
+use Rattle.hv_inter_model.specs.Interpolation.{inter_predicted}
 use Rattle.hv_sample_model.specs.IntraPrediction.{substituted, predicted}
 use Rattle.hv_sample_model.specs.InverseTransform.{residual}
 use Rattle.hv_tree_model.specs.Trees.{Prediction, Intra, Inter, TransformUnit, Tree, Leaf, Split, Outside, side, greatest_size}
@@ -20,16 +21,30 @@ use Rattle.hv_tree_model.specs.Sites.{Site, ctb_side, ctb_column, ctb_row}
 abbrev pub Component : Type 0
 Component = ℕ → ℕ → Option ℕ
 
+-- of the picture, and before it: its reference pictures, which are list 0 of its slice (8.3.4)
 pub record Decoded : Type 0 where
   pub luma : Component
   pub cb : Component
   pub cr : Component
+  pub references : List Picture
 
 abbrev pub nothing : Component
 nothing x y = None
 
-abbrev pub nothing_decoded : Decoded
-nothing_decoded = record { luma = nothing; cb = nothing; cr = nothing }
+-- before the first block of a picture with these reference pictures
+abbrev pub nothing_decoded : List Picture → Decoded
+nothing_decoded references =
+    record { luma = nothing; cb = nothing; cr = nothing; references = references }
+
+-- a component of each reference picture
+abbrev pub luma_planes : List Picture → List Plane
+luma_planes references = map (λ p. p.luma) references
+
+abbrev pub cb_planes : List Picture → List Plane
+cb_planes references = map (λ p. p.cb) references
+
+abbrev pub cr_planes : List Picture → List Plane
+cr_planes references = map (λ p. p.cr) references
 
 -- ---- a transform block
 
@@ -59,11 +74,17 @@ neighbours samples s =
     let n = 2 * 2 ^ s.log2 in
     tabulate (n + 1) (λ i. left_of samples s (n - i)) ++ tabulate n (above_of samples s)
 
--- the samples of a block that is predicted so, by rows; none where this isn't built
-abbrev pub predicted_block : Prediction → Bool → Component → Square → Option (List ℕ)
-predicted_block (Intra mode) is_luma samples s =
+-- The samples of a block that is predicted so, by rows: from its neighbours (8.4.4.2), or from the
+-- plane of an entry of list 0, by a vector, which stands in the place of the coded difference
+-- (8.5.3.3.3). None where list 0 has no such entry. What comes of a reference picture is predicted
+-- for a whole unit, and each of its transform blocks has its part.
+abbrev pub predicted_block :
+    Prediction → Bool → List Plane → Component → Square → Option (List ℕ)
+predicted_block (Intra mode) is_luma planes samples s =
     Some (predicted s.log2 mode is_luma (substituted (neighbours samples s)))
-predicted_block (Inter motion) is_luma samples s = None
+predicted_block (Inter motion) is_luma planes samples s =
+    option_map (λ plane. inter_predicted is_luma plane motion.MvdL0 s.x s.y (2 ^ s.log2))
+    (slice_get planes motion.ref_idx_l0)
 
 -- prediction and residual, by rows (8.6.7)
 abbrev pub sum_of : List ℕ → List ℤ → List ℕ
@@ -84,10 +105,10 @@ with_block samples s block x y =
 
 -- behind a block with these levels, by rows, and this quantiser
 unfoldable pub decoded_block :
-    Prediction → Bool → ℕ → Square → List ℤ → Component → Option Component
-decoded_block prediction is_luma qp s levels samples =
+    Prediction → Bool → ℕ → List Plane → Square → List ℤ → Component → Option Component
+decoded_block prediction is_luma qp planes s levels samples =
     option_map (λ block. with_block samples s (sum_of block (residual s.log2 qp levels)))
-    (predicted_block prediction is_luma samples s)
+    (predicted_block prediction is_luma planes samples s)
 
 -- ---- a transform unit: luma, Cb and Cr, each from its own component (8.4.4.1)
 
@@ -95,17 +116,20 @@ decoded_block prediction is_luma qp s levels samples =
 abbrev pub chroma_of : Square → Square
 chroma_of s = square_at (s.x / 2) (s.y / 2) (s.log2 - 1)
 
-abbrev pub all_decoded : Option Component → Option Component → Option Component → Option Decoded
-all_decoded (Some luma) (Some cb) (Some cr) = Some (record { luma = luma; cb = cb; cr = cr })
-all_decoded _ _ _ = None
+abbrev pub all_decoded :
+    List Picture → Option Component → Option Component → Option Component → Option Decoded
+all_decoded references (Some luma) (Some cb) (Some cr) =
+    Some (record { luma = luma; cb = cb; cr = cr; references = references })
+all_decoded references _ _ _ = None
 
--- QpY is qp, and the mode of chroma is that of luma
+-- QpY is qp, and chroma is predicted as luma is. No block of luma is as small as 4x4, so each has
+-- the same transform, whatever its prediction (8.6.4.2).
 abbrev pub decoded_unit : ℕ → Prediction → Square → TransformUnit → Decoded → Option Decoded
 decoded_unit qp prediction s t d =
-    all_decoded
-    (decoded_block prediction true qp s t.luma d.luma)
-    (decoded_block prediction false (chroma_qp qp) (chroma_of s) t.cb d.cb)
-    (decoded_block prediction false (chroma_qp qp) (chroma_of s) t.cr d.cr)
+    all_decoded d.references
+    (decoded_block prediction true qp (luma_planes d.references) s t.luma d.luma)
+    (decoded_block prediction false (chroma_qp qp) (cb_planes d.references) (chroma_of s) t.cb d.cb)
+    (decoded_block prediction false (chroma_qp qp) (cr_planes d.references) (chroma_of s) t.cr d.cr)
 
 -- ---- a coding unit: its transform units in z-scan order
 
@@ -154,7 +178,7 @@ decoded_trees qp (site ∷ sites) (tree ∷ trees) d =
     option_and_then (decoded_trees qp sites trees)
     (decoded_tree qp greatest_size (ctb_side * ctb_column site) (ctb_side * ctb_row site) tree d)
 
--- 0 stands for a sample that isn't decoded: valid trees of an I picture leave none
+-- 0 stands for a sample that isn't decoded: valid trees leave none
 abbrev pub sample_of : Option ℕ → ℕ
 sample_of None = 0
 sample_of (Some sample) = sample
@@ -169,8 +193,10 @@ picture_of width height d = record {
   cr = plane_of_component (width / 2) (height / 2) d.cr;
 }
 
--- the picture of these luma sides and this slice quantiser; none where a unit isn't predicted by
--- what is built
-unfoldable pub unfiltered : ℕ → ℕ → ℕ → List Site → List Tree → Option Picture
-unfiltered width height qp sites trees =
-    option_map (picture_of width height) (decoded_trees qp sites trees nothing_decoded)
+-- the picture of these luma sides, this slice quantiser and these reference pictures; none where a
+-- unit names one that isn't there
+unfoldable pub unfiltered :
+    ℕ → ℕ → ℕ → List Picture → List Site → List Tree → Option Picture
+unfiltered width height qp references sites trees =
+    option_map (picture_of width height)
+    (decoded_trees qp sites trees (nothing_decoded references))

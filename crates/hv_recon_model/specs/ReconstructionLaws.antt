@@ -1,7 +1,8 @@
--- Every sample of an I picture is decoded.
-use Rattle.std.specs.Prelude.{◌≡◌, ℕ, ◌/◌, ◌<◌, true, List, [], ◌∷◌, is_some, Some}
+-- Every sample of a picture is decoded.
+use Rattle.std.specs.Prelude.{◌≡◌, ℕ, ◌/◌, ◌<◌, ◌≤◌, true, List, [], ◌∷◌, length, is_some, Some}
 use Rattle.hv_tables.specs.declared.bins.SliceKind.{SliceKind}
-use Rattle.hv_tables.specs.declared.bins.SliceKind.TheVariants.{I}
+use Rattle.hv_tables.specs.declared.bins.SliceKind.TheVariants.{I, P}
+use Rattle.hv_types.specs.declared.picture.Picture.{Picture}
 use Rattle.hv_tree_model.specs.Trees.{Tree}
 use Rattle.hv_tree_model.specs.Sites.{Site, sites}
 use Rattle.hv_tree_model.specs.Validity.{IsValidTree}
@@ -24,11 +25,17 @@ pub record AreDecoded (width height : ℕ) (d : Decoded) : Type 0 where
   pub cb : (x y : ℕ) → x < width / 2 → y < height / 2 → IsDecoded d.cb x y
   pub cr : (x y : ℕ) → x < width / 2 → y < height / 2 → IsDecoded d.cr x y
 
+-- a slice of this kind finds so many reference pictures: an I slice asks for none
+abbrev pub AreThere : SliceKind → ℕ → List Picture → Type 0
+AreThere I count references = Unit {0}
+AreThere P count references = count ≤ length references
+
 -- at any quantiser
 abbrev pub EverySampleIsDecoded : Type 0
 EverySampleIsDecoded =
-    (width height qp references : ℕ) (trees : List Tree) →
-    AreTrees I references (sites width height) trees →
+    (slice_type : SliceKind) (width height qp count : ℕ) (references : List Picture)
+    (trees : List Tree) → AreThere slice_type count references →
+    AreTrees slice_type count (sites width height) trees →
     (d : Decoded) ×
-    (decoded_trees qp (sites width height) trees nothing_decoded ≡ Some d) ×
+    (decoded_trees qp (sites width height) trees (nothing_decoded references) ≡ Some d) ×
     AreDecoded width height d

@@ -103,12 +103,12 @@ decoded_all task (site ∷ sites) done d =
     decoded_all task sites (after greatest_size done tree) e
 
 pub every_chosen : EveryChosenSampleIsDecoded
-every_chosen task width height =
-    let trees : List Tree = best_trees task (sites width height) [] nothing_decoded in
-    let all = every_sample width height task.qp task.references trees
-    (valid_trees_in I task.references task (sites width height) [] nothing_decoded) in
-    let reached : Decoded = best_decoded task (sites width height) [] nothing_decoded in
+every_chosen task references width height =
+    let none : Decoded = nothing_decoded references in
+    let trees : List Tree = best_trees task (sites width height) [] none in
+    let all = every_sample I width height task.qp task.references references trees tt
+    (valid_trees_in I task.references task (sites width height) [] none) in
+    let reached : Decoded = best_decoded task (sites width height) [] none in
     let same : all.0 ≡ reached =
-    some_same all.0 reached
-    (sym all.1 ∙ decoded_all task (sites width height) [] nothing_decoded) in
+    some_same all.0 reached (sym all.1 ∙ decoded_all task (sites width height) [] none) in
     subst (AreDecoded width height) same all.2

@@ -38,7 +38,7 @@ row_of_8 first =
 abbrev trees_of : ℕ → ℕ → ℕ → ℕ → (ℕ → ℕ → ℕ) → ℕ → ℕ → List Tree
 trees_of effort qp width height luma cb cr =
     best_trees (task effort qp (picture width height luma cb cr)) (sites width height) []
-    nothing_decoded
+    (nothing_decoded [])
 
 -- Where nothing is decoded all modes predict 128, and the first that is tried is taken: planar.
 flat_8 :
@@ -129,7 +129,7 @@ quarters :
     chosen_units
     (first_given 1 32
     (picture 16 16 (λ x y. cond (nat_lt y 8) 138 (cond (nat_lt x 8) 150 90)) 150 100))
-    (Intra 1) 3 (square_at 0 0 4) nothing_decoded ≡
+    (Intra 1) 3 (square_at 0 0 4) (nothing_decoded []) ≡
     unit_8 (pos 3) (pos 4) (negsuc 4) ∷ unit_8 (pos 0) (pos 0) (pos 0) ∷
     unit_8 (pos 4) (pos 0) (pos 0) ∷ unit_8 (negsuc 16) (pos 0) (pos 0) ∷ []
 unfolding chosen_levels levels tabulate predicted total_of sum_of decoded_tree decoded_block residual

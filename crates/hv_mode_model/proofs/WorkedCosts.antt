@@ -39,6 +39,7 @@ behind_one = record {
     luma = λ x y. cond (nat_lt x 8) (Some (100 + 3 * y)) None;
     cb = nothing;
     cr = nothing;
+    references = [];
   };
   earlier = Coded 3 (Intra 10) ∷ [];
 }

@@ -27,7 +27,7 @@ first_given effort qp input =
     given_at (task effort qp input) (site input.luma.width input.luma.height 0) []
 
 abbrev pub nothing_before : Before
-nothing_before = record { decoded = nothing_decoded; earlier = [] }
+nothing_before = record { decoded = nothing_decoded []; earlier = [] }
 
 abbrev pub zeros : ℕ → List ℤ
 zeros n = replicate n (pos 0)

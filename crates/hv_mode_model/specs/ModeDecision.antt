@@ -18,7 +18,7 @@ use Rattle.hv_tree_model.specs.EarlierUnits.{Square as UnitSquare, after, Surrou
 use Rattle.hv_tree_model.specs.MostProbableModes.{planar, dc, candidates}
 use Rattle.hv_unit_model.specs.BlockSyntax.{is_intra}
 use Rattle.hv_unit_model.specs.Bins.{luma_mode_bins, bins_of_node}
-use Rattle.hv_recon_model.specs.Reconstruction.{Component, Decoded, Square, square_at, chroma_of, quarter, predicted_block, decoded_unit, decoded_tree, sample_of}
+use Rattle.hv_recon_model.specs.Reconstruction.{Component, Decoded, Square, square_at, luma_planes, cb_planes, cr_planes, chroma_of, quarter, predicted_block, decoded_unit, decoded_tree, sample_of}
 use Rattle.hv_filter_model.specs.Costs.{cost, first_least}
 
 -- ---- what is given, and what was chosen before
@@ -36,7 +36,7 @@ pub record Given : Type 0 where
 
 -- where a choice begins
 pub record Before : Type 0 where
-  -- the picture before the in-loop filters, as far as it is decoded
+  -- the picture before the in-loop filters, as far as it is decoded, and its reference pictures
   pub decoded : Decoded
   -- the squares of the block that were chosen so far
   pub earlier : List UnitSquare
@@ -65,10 +65,10 @@ node_square g size address =
 
 -- ---- the levels of a coding unit
 
--- what a block is predicted as, by rows
-abbrev pub predicted_samples : Prediction → Bool → Component → Square → List ℕ
-predicted_samples prediction is_luma samples s =
-    or_else [] (predicted_block prediction is_luma samples s)
+-- what a block is predicted as, by rows, with these planes of the reference pictures
+abbrev pub predicted_samples : Prediction → Bool → List Plane → Component → Square → List ℕ
+predicted_samples prediction is_luma planes samples s =
+    or_else [] (predicted_block prediction is_luma planes samples s)
 
 -- what a plane has of a block, by rows
 abbrev pub block_samples : Plane → Square → List ℕ
@@ -81,17 +81,22 @@ differences (a ∷ samples) [] = []
 differences (a ∷ samples) (p ∷ predicted) = (pos a -ℤ pos p) ∷ differences samples predicted
 
 -- the levels of a block, by rows: those of what its prediction leaves
-unfoldable pub chosen_levels : Prediction → Bool → ℕ → Plane → Component → Square → List ℤ
-chosen_levels prediction is_luma qp input samples s =
+unfoldable pub chosen_levels :
+    Prediction → Bool → ℕ → Plane → List Plane → Component → Square → List ℤ
+chosen_levels prediction is_luma qp input planes samples s =
     levels s.log2 qp (is_intra prediction)
-    (differences (block_samples input s) (predicted_samples prediction is_luma samples s))
+    (differences (block_samples input s) (predicted_samples prediction is_luma planes samples s))
 
 -- those of a transform unit, each component predicted from its own samples
 abbrev pub chosen_unit : Given → Prediction → Square → Decoded → TransformUnit
 chosen_unit g prediction s d = record {
-  luma = chosen_levels prediction true g.qp g.input.luma d.luma s;
-  cb = chosen_levels prediction false (chroma_qp g.qp) g.input.cb d.cb (chroma_of s);
-  cr = chosen_levels prediction false (chroma_qp g.qp) g.input.cr d.cr (chroma_of s);
+  luma = chosen_levels prediction true g.qp g.input.luma (luma_planes d.references) d.luma s;
+  cb =
+      chosen_levels prediction false (chroma_qp g.qp) g.input.cb (cb_planes d.references) d.cb
+      (chroma_of s);
+  cr =
+      chosen_levels prediction false (chroma_qp g.qp) g.input.cr (cr_planes d.references) d.cr
+      (chroma_of s);
 }
 
 -- so many quarters of a unit of 64x64, from quarter i on, each behind the earlier ones
@@ -131,7 +136,7 @@ abbrev pub absolute_differences : Given → ℕ → ℕ → Before → ℕ → �
 absolute_differences g size address before mode =
     let s = first_block g size address in
     sum (map unsigned_abs (differences (block_samples g.input.luma s)
-    (predicted_samples (Intra mode) true before.decoded.luma s)))
+    (predicted_samples (Intra mode) true [] before.decoded.luma s)))
 
 -- how many bins the mode takes
 abbrev pub mode_bins : Given → ℕ → Before → ℕ → ℕ

@@ -1,6 +1,7 @@
 -- What is chosen may be coded, decodes to what the choice was made by, and is chosen in a block as in
 -- the picture.
 use Rattle.std.specs.Prelude.{◌≡◌, ℕ, ◌≤◌, List, [], Some}
+use Rattle.hv_types.specs.declared.picture.Picture.{Picture}
 use Rattle.hv_tree_model.specs.Trees.{greatest_size}
 use Rattle.hv_tree_model.specs.Sites.{Site, x0, y0, sites}
 use Rattle.hv_tree_model.specs.EarlierUnits.{Square}
@@ -40,11 +41,12 @@ ChosenTreesAreDecoded =
     decoded_trees task.qp sites (best_trees task sites done d) d ≡
     Some (best_decoded task sites done d)
 
--- of a picture every sample is decoded
+-- of a picture every sample is decoded, whatever its reference pictures are
 abbrev pub EveryChosenSampleIsDecoded : Type 0
 EveryChosenSampleIsDecoded =
-    (task : Task) (width height : ℕ) →
-    AreDecoded width height (best_decoded task (sites width height) [] nothing_decoded)
+    (task : Task) (references : List Picture) (width height : ℕ) →
+    AreDecoded width height
+    (best_decoded task (sites width height) [] (nothing_decoded references))
 
 -- What is chosen for a block by the units of the blocks around it is what is chosen for it in the
 -- picture.

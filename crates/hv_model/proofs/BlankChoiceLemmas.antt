@@ -110,7 +110,7 @@ module _ (cfg : Settings) (none : cfg.effort ≡ 0) (header : SliceHeader) (inpu
   pub coded_blank : coded_units cfg header input ≡ blank_units (picture_sites cfg)
   coded_blank =
       ap₂ (tree_units (picture_sites cfg))
-      (trees_blank _ none (picture_sites cfg) [] nothing_decoded) sao_off ∙
+      (trees_blank _ none (picture_sites cfg) [] (nothing_decoded [])) sao_off ∙
       units_blank (picture_sites cfg)
 
 -- ---- what is shown

@@ -4,6 +4,7 @@ use Rattle.std.specs.Prelude.{◌-◌, ◌^◌, replicate, pos, Some, option_map
 use Rattle.std.specs.List.{list_all}
 use Rattle.hv_tables.specs.declared.bins.SliceKind.TheVariants.{I}
 use Rattle.hv_types.specs.declared.settings.Settings.{Settings}
+use Rattle.hv_types.specs.declared.picture.Picture.{Picture}
 use Rattle.hv_types.specs.Configuration.{IsValid, padded_width, padded_height}
 use Rattle.hv_stream_model.specs.Headers.{SliceHeader}
 use Rattle.hv_plan.specs.Levels.{any_significant}
@@ -12,6 +13,7 @@ use Rattle.hv_tree_model.specs.Sites.{Site, sites, squares, is_outside, crosses}
 use Rattle.hv_tree_model.specs.MostProbableModes.{dc}
 use Rattle.hv_tree_model.specs.Validity.{AreValid}
 use Rattle.hv_filter_model.specs.OffLaws.{IsOff}
+use Rattle.hv_recon_model.specs.Reconstruction.{unfiltered}
 use Rattle.hv_recon_model.specs.ReconstructionLaws.{AreTrees}
 use Rattle.hv_recon_model.specs.BlankLaws.{is_blank_tree, BlankPicturesAreGrey}
 use Rattle.hv_slice_model.specs.BlankUnits.{blank_node}
@@ -19,8 +21,9 @@ use Rattle.hv_slice_model.specs.Slices.{picture_sites}
 use Rattle.hv_slice_model.proofs.BlankUnitLemmas.{blank_units_valid}
 use Rattle.hv_deblock_model.specs.TreeSquares.{squares_of_trees}
 use Rattle.hv_deblock_model.specs.FlatPictures.{FlatPicturesAreShown}
-use Rattle.hv_model.specs.Reconstruction.{DecodedPicture, no_vectors, filtered_picture, reconstructed}
+use Rattle.hv_model.specs.Reconstruction.{DecodedPicture, distances_of, vectors_of, filtered_picture, reconstructed}
 use Rattle.hv_model.specs.Encoding.{coded_units, recon_picture}
+use Rattle.hv_model.proofs.IntraTreeLemmas.{trees_stay}
 
 zeros_insignificant : (n : ℕ) → any_significant (replicate n (pos 0)) ≡ false
 zeros_insignificant zero = refl
@@ -100,11 +103,15 @@ coded_units_grey grey flat cfg valid header references =
     let trees : List Tree = map (λ unit. unit.tree) units in
     let wide : 8 ≤ cfg.width = valid.width_least in
     let high : 8 ≤ cfg.height = valid.height_least in
-    ap (option_map (filtered_picture w header units))
-    (grey w h header.qp 0 trees
-    (trees_valid (picture_sites cfg) units (blank_units_valid I 0 (picture_sites cfg)))
-    (trees_blank (picture_sites cfg))) ∙
+    let pictures : List Picture = map (λ reference. reference.picture) references in
+    let valid_trees : AreTrees I 0 (picture_sites cfg) trees =
+    trees_valid (picture_sites cfg) units (blank_units_valid I 0 (picture_sites cfg)) in
+    ap (λ (list : List Tree). option_map (filtered_picture w header list units)
+    (unfiltered w h header.qp pictures (picture_sites cfg) list))
+    (trees_stay 0 (picture_sites cfg) trees valid_trees (distances_of header references) []) ∙
+    ap (option_map (filtered_picture w header trees units))
+    (grey w h header.qp 0 pictures trees valid_trees (trees_blank (picture_sites cfg))) ∙
     ap (λ picture. Some picture)
-    (flat header.qp (squares_of_trees w no_vectors trees) (map (λ unit. unit.sao) units) w h
-    128 128 128 (omega arith) (omega arith) (omega arith) (omega arith) (omega arith) (omega arith)
-    (omega arith) (choices_off (picture_sites cfg)))
+    (flat header.qp (squares_of_trees w (vectors_of w trees) trees) (map (λ unit. unit.sao) units)
+    w h 128 128 128 (omega arith) (omega arith) (omega arith) (omega arith) (omega arith)
+    (omega arith) (omega arith) (choices_off (picture_sites cfg)))

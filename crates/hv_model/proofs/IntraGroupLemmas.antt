@@ -2,7 +2,6 @@
 use Rattle.std.proofs.Common.{◌≡◌, ℕ, List, [], ◌∷◌, ◌++◌, sym, ap, ◌∙◌, arith, append_assoc, append-nil}
 use Rattle.std.specs.Prelude.{flat_map}
 use Rattle.std.proofs.lemmas.Grind.{flat_map-append}
-use Rattle.hv_types.specs.declared.settings.Settings.{Settings}
 use Rattle.hv_types.specs.declared.picture.Picture.{Picture}
 use Rattle.hv_stream_model.specs.Headers.{parameter_sets}
 use Rattle.hv_model.specs.Encoding.{groups_of}

@@ -17,7 +17,6 @@ use Rattle.hv_model.proofs.KeepingLemmas.{shown_at, AreDecodedTo}
 use Rattle.hv_model.proofs.WrittenUnitLemmas.{written}
 use Rattle.hv_model.proofs.DecodedStreamLemmas.{stream_decoded}
 use Rattle.hv_model.proofs.IntraUnitLemmas.{intra_units_valid, intra_decoded}
-use Rattle.hv_model.proofs.RoundTripLemmas.{stream_is}
 
 -- of the picture of a number in a group
 abbrev units_of : Settings → List Picture → ℕ → List CodingTreeUnit
@@ -34,6 +33,11 @@ all_decoded cfg group k =
     let header : SliceHeader = header_in cfg (length group) k in
     intra_decoded cfg header (map (shown_at (shown_as cfg group)) (list_0 header))
     (input_picture group k)
+
+stream_is : (cfg : Settings) (pictures : List Picture) →
+    encode_of cfg pictures ≡ written cfg (units_of cfg) pictures
+stream_is cfg [] = refl
+stream_is cfg (picture ∷ pictures) = refl
 
 module _
     (reads_other : OtherSlicesAreRead) (codable_other : OtherSlicesAreCodable)

@@ -16,6 +16,7 @@ pub mod IntraUnitLemmas
 pub mod IntraStreamLemmas
 pub mod PlannedLevelLemmas
 pub mod PlannedSquareLemmas
+pub mod IntraTreeLemmas
 pub mod PlannedIntraLemmas
 pub mod IntraGroupLemmas
 mod BlankChoiceLemmas
@@ -25,3 +26,4 @@ mod WorkedStreams
 mod WorkedRefusals
 mod WorkedPictures
 mod WorkedIntraStreams
+mod WorkedInterStreams

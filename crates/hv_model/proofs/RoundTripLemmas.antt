@@ -32,7 +32,7 @@ units_of cfg group number = coded_units (picture_sites cfg)
 abbrev shown_as : Settings → List Picture → ℕ → Picture
 shown_as cfg group number = recon_picture cfg
 
-pub stream_is : (cfg : Settings) (pictures : List Picture) →
+stream_is : (cfg : Settings) (pictures : List Picture) →
     encode_of cfg pictures ≡ written cfg (units_of cfg) pictures
 stream_is cfg [] = refl
 stream_is cfg (picture ∷ pictures) = refl

@@ -22,6 +22,7 @@ use Rattle.hv_tree_model.specs.Trees.{no_levels, no_units}
 use Rattle.hv_tree_model.specs.Sites.{sites, column_of, row_of, address_of, crosses, is_outside}
 use Rattle.hv_tree_model.specs.EarlierUnits.{look_picture}
 use Rattle.hv_tree_model.specs.MostProbableModes.{candModeList, mode_of_remaining}
+use Rattle.hv_vector_model.specs.Vectors.{trees_with_vectors, tree_with_vectors}
 use Rattle.hv_unit_model.specs.BlockSyntax.{sao, luma_mode, block_levels, transform_unit, quarters, transform_tree, intra_unit, coding_unit, coding_quadtree}
 use Rattle.hv_unit_model.specs.Bins.{sao_bins, luma_mode_bins, transform_unit_bins, quarters_bins, transform_tree_bins, predicted_bins, bins_of_node}
 use Rattle.hv_slice_model.specs.BlankUnits.{blank_node}
@@ -88,7 +89,7 @@ unfolding first_bytes lps_width next_variable first_variables shift_of log2_of s
 five_parsed = refl
 
 five_shown : decode_of five_pictures ≡ Some (replicate 5 (crop (grey 8 8) 8 8))
-unfolding first_bytes lps_width next_variable first_variables shift_of log2_of sites sao coding_quadtree coding_unit intra_unit luma_mode candModeList mode_of_remaining truncated_unary transform_tree quarters transform_unit block_levels no_units no_levels look_picture column_of row_of address_of crosses is_outside decoded_block decoded_tree decoded_trees unfiltered predicted residual sum_of total_of tabulate
+unfolding first_bytes lps_width next_variable first_variables shift_of log2_of sites sao coding_quadtree coding_unit intra_unit luma_mode candModeList mode_of_remaining truncated_unary transform_tree quarters transform_unit block_levels no_units no_levels look_picture column_of row_of address_of crosses is_outside decoded_block decoded_tree decoded_trees unfiltered trees_with_vectors tree_with_vectors predicted residual sum_of total_of tabulate
 five_shown = refl
 
 -- ---- written
@@ -135,5 +136,5 @@ unfolding first_bytes lps_width next_variable first_variables shift_of log2_of s
 two_groups_written = refl
 
 two_groups_shown : decode_of two_groups ≡ Some (replicate 5 (crop (grey 8 8) 8 8))
-unfolding first_bytes lps_width next_variable first_variables shift_of log2_of sites sao coding_quadtree coding_unit intra_unit luma_mode candModeList mode_of_remaining truncated_unary transform_tree quarters transform_unit block_levels no_units no_levels look_picture column_of row_of address_of crosses is_outside decoded_block decoded_tree decoded_trees unfiltered predicted residual sum_of total_of tabulate
+unfolding first_bytes lps_width next_variable first_variables shift_of log2_of sites sao coding_quadtree coding_unit intra_unit luma_mode candModeList mode_of_remaining truncated_unary transform_tree quarters transform_unit block_levels no_units no_levels look_picture column_of row_of address_of crosses is_outside decoded_block decoded_tree decoded_trees unfiltered trees_with_vectors tree_with_vectors predicted residual sum_of total_of tabulate
 two_groups_shown = refl

@@ -19,6 +19,7 @@ use Rattle.hv_tree_model.specs.Trees.{Motion, Intra, Inter, Tree, Leaf, Split, O
 use Rattle.hv_tree_model.specs.Sites.{sites, column_of, row_of, address_of, crosses, is_outside}
 use Rattle.hv_tree_model.specs.EarlierUnits.{look_picture}
 use Rattle.hv_tree_model.specs.MostProbableModes.{candModeList, mode_of_remaining}
+use Rattle.hv_vector_model.specs.Vectors.{trees_with_vectors, tree_with_vectors}
 use Rattle.hv_unit_model.specs.BlockSyntax.{sao, luma_mode, block_levels, transform_unit, quarters, transform_tree, intra_unit, coding_unit, coding_quadtree}
 use Rattle.hv_recon_model.specs.Reconstruction.{decoded_block, decoded_tree, decoded_trees, unfiltered}
 use Rattle.hv_slice_model.specs.BlankUnits.{no_offset, no_offsets}
@@ -58,7 +59,7 @@ ramp_shown : decode_of ramp ≡ Some (
       cr = plane_by_rows 4 4 (replicate 16 88);
     } ∷ []
     )
-unfolding first_bytes lps_width next_variable first_variables shift_of log2_of sites sao coding_quadtree coding_unit intra_unit luma_mode candModeList mode_of_remaining truncated_unary transform_tree quarters transform_unit block_levels no_units no_levels look_picture column_of row_of address_of crosses is_outside residual_coding last_sig_coeff sig_coeff_flags greater1_flags levels_of_flags positions sub_blocks_below coeff_abs_level_remaining exp_golomb scan_order block_position block_number tabulate decoded_block decoded_tree decoded_trees unfiltered predicted residual sum_of total_of
+unfolding first_bytes lps_width next_variable first_variables shift_of log2_of sites sao coding_quadtree coding_unit intra_unit luma_mode candModeList mode_of_remaining truncated_unary transform_tree quarters transform_unit block_levels no_units no_levels look_picture column_of row_of address_of crosses is_outside residual_coding last_sig_coeff sig_coeff_flags greater1_flags levels_of_flags positions sub_blocks_below coeff_abs_level_remaining exp_golomb scan_order block_position block_number tabulate decoded_block decoded_tree decoded_trees unfiltered trees_with_vectors tree_with_vectors predicted residual sum_of total_of
 ramp_shown = refl
 
 -- ---- units
@@ -94,10 +95,10 @@ two_raised_shown : reconstructed 16 8 (idr_header 32) [] (two_raised ∷ []) ≡
   cb = plane_by_rows 8 4 (replicate 32 128);
   cr = plane_by_rows 8 4 (replicate 32 128);
 })
-unfolding sites address_of no_levels tabulate decoded_block decoded_tree decoded_trees unfiltered predicted residual sum_of total_of
+unfolding sites address_of no_levels tabulate decoded_block decoded_tree decoded_trees unfiltered trees_with_vectors tree_with_vectors predicted residual sum_of total_of
 two_raised_shown = refl
 
--- so far there are no samples of a unit that is predicted from another picture
+-- a unit that names a picture which list 0 doesn't have has no samples
 abbrev still : Motion
 still = record { ref_idx_l0 = 0; mvp_l0_flag = 0; MvdL0 = record { x = pos 0; y = pos 0 } }
 
@@ -108,5 +109,5 @@ nothing_of_others :
       tree = Leaf (Inter still) (no_units 3);
       end_of_slice_segment_flag = true;
     } ∷ []) ≡ None
-unfolding sites no_units decoded_block decoded_tree decoded_trees unfiltered
+unfolding sites no_units decoded_block decoded_tree decoded_trees unfiltered trees_with_vectors tree_with_vectors
 nothing_of_others = refl

@@ -12,6 +12,7 @@ use Rattle.hv_group_model.specs.Structure.{Kept}
 use Rattle.hv_stream_model.specs.Headers.{Size, SliceHeader}
 use Rattle.hv_tree_model.specs.Trees.{no_levels, no_units}
 use Rattle.hv_tree_model.specs.Sites.{sites, column_of, row_of, crosses, is_outside}
+use Rattle.hv_vector_model.specs.Vectors.{trees_with_vectors, tree_with_vectors}
 use Rattle.hv_slice_model.specs.BlankUnits.{blank_node}
 use Rattle.hv_slice_model.specs.Slices.{idr_header, set_counts, list_0}
 use Rattle.hv_model.specs.Parsing.{CodedPicture, Sequence, sequences_of, cut_at_idrs}
@@ -85,18 +86,18 @@ last_before_middle =
     []
 
 coded_in_this_order : decoded_counts last_before_middle ≡ Some (0 ∷ 2 ∷ 1 ∷ [])
-unfolding sites blank_node crosses is_outside column_of row_of no_units no_levels decoded_block decoded_tree decoded_trees unfiltered
+unfolding sites blank_node crosses is_outside column_of row_of no_units no_levels decoded_block decoded_tree decoded_trees unfiltered trees_with_vectors tree_with_vectors
 coded_in_this_order = refl
 
 shown_in_another : shown_counts last_before_middle ≡ Some (0 ∷ 1 ∷ 2 ∷ [])
-unfolding sites blank_node crosses is_outside column_of row_of no_units no_levels decoded_block decoded_tree decoded_trees unfiltered
+unfolding sites blank_node crosses is_outside column_of row_of no_units no_levels decoded_block decoded_tree decoded_trees unfiltered trees_with_vectors tree_with_vectors
 shown_in_another = refl
 
 -- counts may leave gaps
 gaps : shown_counts
     (first ∷ coded (header P 127 (kept 127 true ∷ []) []) ∷
     coded (header I 64 [] (kept 63 false ∷ [])) ∷ []) ≡ Some (0 ∷ 64 ∷ 127 ∷ [])
-unfolding sites blank_node crosses is_outside column_of row_of no_units no_levels decoded_block decoded_tree decoded_trees unfiltered
+unfolding sites blank_node crosses is_outside column_of row_of no_units no_levels decoded_block decoded_tree decoded_trees unfiltered trees_with_vectors tree_with_vectors
 gaps = refl
 
 no_idr_picture : decoded_counts (coded (header I 1 [] []) ∷ []) ≡ None
@@ -104,12 +105,12 @@ no_idr_picture = refl
 
 -- a set that names a picture that never came
 missing_picture : decoded_counts (first ∷ coded (header P 3 (kept 1 true ∷ []) []) ∷ []) ≡ None
-unfolding sites blank_node crosses is_outside column_of row_of no_units no_levels decoded_block decoded_tree decoded_trees unfiltered
+unfolding sites blank_node crosses is_outside column_of row_of no_units no_levels decoded_block decoded_tree decoded_trees unfiltered trees_with_vectors tree_with_vectors
 missing_picture = refl
 
 -- .. also where it isn't used
 missing_and_unused : decoded_counts (first ∷ coded (header I 3 (kept 1 false ∷ []) []) ∷ []) ≡ None
-unfolding sites blank_node crosses is_outside column_of row_of no_units no_levels decoded_block decoded_tree decoded_trees unfiltered
+unfolding sites blank_node crosses is_outside column_of row_of no_units no_levels decoded_block decoded_tree decoded_trees unfiltered trees_with_vectors tree_with_vectors
 missing_and_unused = refl
 
 -- .. and one that was dropped: the set of picture 2 is without picture 0
@@ -117,7 +118,7 @@ dropped_picture :
     decoded_counts
     (first ∷ second ∷ coded (header P 2 (kept 1 true ∷ []) []) ∷
     coded (header P 3 (kept 3 true ∷ []) []) ∷ []) ≡ None
-unfolding sites blank_node crosses is_outside column_of row_of no_units no_levels decoded_block decoded_tree decoded_trees unfiltered
+unfolding sites blank_node crosses is_outside column_of row_of no_units no_levels decoded_block decoded_tree decoded_trees unfiltered trees_with_vectors tree_with_vectors
 dropped_picture = refl
 
 -- .. and one that is kept by every set between
@@ -125,7 +126,7 @@ kept_picture :
     decoded_counts
     (first ∷ second ∷ coded (header P 2 (kept 1 true ∷ kept 2 false ∷ []) []) ∷
     coded (header P 3 (kept 3 true ∷ []) []) ∷ []) ≡ Some (0 ∷ 1 ∷ 2 ∷ 3 ∷ [])
-unfolding sites blank_node crosses is_outside column_of row_of no_units no_levels decoded_block decoded_tree decoded_trees unfiltered
+unfolding sites blank_node crosses is_outside column_of row_of no_units no_levels decoded_block decoded_tree decoded_trees unfiltered trees_with_vectors tree_with_vectors
 kept_picture = refl
 
 count_comes_twice : decoded_counts (first ∷ second ∷ second ∷ []) ≡ None
@@ -142,12 +143,12 @@ counts_begin_anew :
     shown_of (sequences_of small (first ∷ second ∷ first ∷ second ∷ [])) ≡
     Some
     (crop (grey 8 8) 6 8 ∷ crop (grey 8 8) 6 8 ∷ crop (grey 8 8) 6 8 ∷ crop (grey 8 8) 6 8 ∷ [])
-unfolding sites blank_node crosses is_outside column_of row_of no_units no_levels decoded_block decoded_tree decoded_trees unfiltered predicted residual sum_of total_of tabulate
+unfolding sites blank_node crosses is_outside column_of row_of no_units no_levels decoded_block decoded_tree decoded_trees unfiltered trees_with_vectors tree_with_vectors predicted residual sum_of total_of tabulate
 counts_begin_anew = refl
 
 nothing_kept_across :
     shown_of
     (sequences_of small (first ∷ second ∷ first ∷ coded (header P 2 (kept 1 true ∷ []) []) ∷ [])) ≡
     None
-unfolding sites blank_node crosses is_outside column_of row_of no_units no_levels decoded_block decoded_tree decoded_trees unfiltered
+unfolding sites blank_node crosses is_outside column_of row_of no_units no_levels decoded_block decoded_tree decoded_trees unfiltered trees_with_vectors tree_with_vectors
 nothing_kept_across = refl

@@ -41,13 +41,13 @@ picture_task cfg header input = record {
 -- the trees of its blocks, in raster order
 abbrev pub chosen_trees : Settings → SliceHeader → Picture → List Tree
 chosen_trees cfg header input =
-    best_trees (picture_task cfg header input) (picture_sites cfg) [] nothing_decoded
+    best_trees (picture_task cfg header input) (picture_sites cfg) [] (nothing_decoded [])
 
 -- what they are decoded to, before the in-loop filters
 abbrev pub unfiltered : Settings → SliceHeader → Picture → Picture
 unfiltered cfg header input =
     picture_of (padded_width cfg) (padded_height cfg)
-    (best_decoded (picture_task cfg header input) (picture_sites cfg) [] nothing_decoded)
+    (best_decoded (picture_task cfg header input) (picture_sites cfg) [] (nothing_decoded []))
 
 -- how its squares are coded
 abbrev pub picture_squares : Settings → SliceHeader → Picture → Squares

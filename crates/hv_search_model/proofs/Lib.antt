@@ -1,0 +1,3 @@
+pub mod ReachLemmas
+mod WorkedMotion
+mod WorkedScores

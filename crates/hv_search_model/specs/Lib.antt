@@ -1,0 +1,2 @@
+pub mod MotionSearch
+pub mod MotionLaws

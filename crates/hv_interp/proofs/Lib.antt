@@ -4,5 +4,7 @@ mod LaneLemmas
 mod PlaceLemmas
 mod PredictionLemmas
 mod RoundedLaneLemmas
+mod RoundedTotalLemmas
 mod SumLemmas
+mod TotalLaneLemmas
 mod WindowLemmas

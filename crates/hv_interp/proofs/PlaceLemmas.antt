@@ -43,8 +43,8 @@ HasFirst-put {A} d at count next f list part room before right end k below =
     (cases_lt k at)
 
 -- a row of a window
-abbrev pub row_part : List ℕ → ℕ → ℕ → List ℕ
-row_part samples at n = take (at + n - at) (drop at samples)
+abbrev pub row_part : {A : Type 0} → List A → ℕ → ℕ → List A
+row_part {A} samples at n = take (at + n - at) (drop at samples)
 
 pub length-row_part : (samples : List ℕ) (at n : ℕ) → at + n ≤ length samples → length (row_part samples at n) ≡ n
 length-row_part samples at n room = length-take (at + n - at) (drop at samples) ∙ omega (arith, length-drop at samples, room)

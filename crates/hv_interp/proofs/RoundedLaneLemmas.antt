@@ -83,6 +83,14 @@ clipped_by false false n z e p q =
     let is : 255 ≡ clip1 z = omega (arith, ints, clamps, q) in
     from_255 n (rw (e) p) (rw (e) q) ∙ ap (λ v. v ∷ []) is
 
+pub clips_are : (n : ℕ) (lanes : List ℤ) → length lanes ≡ n → ((j : ℕ) → SFits w16 (lane lanes j)) →
+    bytes (clamped (map (of_z w16) lanes) (replicate n 0) (replicate n 255)) ≡ map clip1 lanes
+clips_are zero [] l f = refl
+clips_are zero (z ∷ lanes) l f = absurd (omega arith)
+clips_are (suc n) [] l f = absurd (omega arith)
+clips_are (suc n) (z ∷ lanes) l f =
+    ap₂ (λ a b. a ++ b) (clipped_by _ _ (of_z w16 z) z (to_z-of_z w16 z (f 0)) refl refl) (clips_are n lanes (omega arith) (λ j. f (suc j)))
+
 fits : (z : ℤ) → unsigned_abs z ≤ 32767 → SFits w16 z
 fits z h = fits_signed_from_abs w16 z (omega (arith, h))
 

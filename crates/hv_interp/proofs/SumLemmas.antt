@@ -1,11 +1,15 @@
 -- Sums of taps times values.
-use Rattle.std.proofs.Common.{◌≡◌, ℕ, zero, suc, ◌+◌, ◌*◌, ◌<◌, ◌≤◌, List, [], ◌∷◌, ℤ, pos, ◌+ℤ◌, ◌*ℤ◌, refl, ap, ap₂, arith, slice_index_or, length, take, take_all, add-one, Fits, w8, w32, to_z, of_z}
+use Rattle.std.proofs.Common.{◌≡◌, ℕ, zero, suc, ◌+◌, ◌*◌, ◌<◌, ◌≤◌, List, [], ◌∷◌, ℤ, pos, negsuc, ◌+ℤ◌, ◌*ℤ◌, refl, sym, subst, ⊎_elim, length-take, ap, ap₂, arith, slice_index_or, length, take, take_all, add-one, Fits, w8, w32, to_z, of_z}
 use mir.Syntax.{w16}
 use mir.Val.{SFits}
 use Rattle.std.proofs.lemmas.Int.{to_z-of_z, fits_signed_from_abs, ints, unsigned_abs-mul}
+use Rattle.std.specs.Int.{int_shr}
 use Rattle.std.specs.Int.RustNames.{unsigned_abs}
+use Rattle.std.proofs.lemmas.Bool.{cases_lt}
+use Rattle.std.proofs.lemmas.List.{get_or-take, get_or_past}
 use Rattle.std.proofs.Math.Nat.{mul-le-mul_right, mul-le-mul_left, add-mul}
 use Rattle.hv_lemmas.proofs.SignedLemmas.{size_of_sum}
+use Rattle.hv_lanes.proofs.NumberLemmas.{small_number}
 use Rattle.hv_inter_model.specs.Interpolation.{weighted}
 use Rattle.hv_interp.specs.Filters.{weight_of, strided_sum, strided_sum_of, strided_total, strided_total_of}
 
@@ -110,3 +114,42 @@ pub size_of_strided_sum_of : (k : ℕ) (taps : List ℤ) (samples : List ℕ) (a
 unfolding strided_sum_of
 size_of_strided_sum_of k taps samples at step light bytes =
     size_of_strided_sum (take k taps) samples at step (omega (arith, light, weight_of_take k taps)) bytes
+
+-- a tap is no heavier than all
+tap_small : (taps : List ℤ) (k : ℕ) → unsigned_abs (slice_index_or taps k (pos 0)) ≤ weight_of taps
+tap_small [] k = omega arith
+tap_small (tap ∷ taps) zero = omega arith
+tap_small (tap ∷ taps) (suc k) = omega (arith, tap_small taps k)
+
+pub taps_fit : (taps : List ℤ) → weight_of taps ≤ 112 → (k : ℕ) → SFits w16 (slice_index_or taps k (pos 0))
+taps_fit taps light k = fits_signed_from_abs w16 (slice_index_or taps k (pos 0)) (omega (arith, light, tap_small taps k))
+
+-- the sum of the first of taps of weight 112 times numbers of 16 bits
+pub size_of_strided_total_of : (k : ℕ) (taps numbers : List ℤ) (at step : ℕ) → weight_of taps ≤ 112 →
+    ((i : ℕ) → SFits w16 (slice_index_or numbers i (pos 0))) → unsigned_abs (strided_total_of k taps numbers at step) ≤ 3670016
+unfolding strided_total_of
+size_of_strided_total_of k taps numbers at step light fits =
+    let some : List ℤ = take k taps in
+    let sum = size_of_weighted some (λ k. slice_index_or numbers (at + k * step) (pos 0)) 32768
+    (λ k. small_number _ (fits (at + k * step))) in
+    let few : weight_of some ≤ 112 = omega (arith, light, weight_of_take k taps) in
+    let most : weight_of some * 32768 ≤ 112 * 32768 = mul-le-mul_right 32768 few in
+    omega (arith, sum, most)
+
+-- sums of taps of weight 112 times bytes have 16 bits, and so have the first of a list that are such sums
+pub sums_have_16_bits : (count : ℕ) (taps : List ℤ) (samples : List ℕ) (sums : List ℤ) (place : ℕ → ℕ) (step : ℕ) → weight_of taps ≤ 112 →
+    ((i : ℕ) → Fits w8 (slice_index_or samples i 0)) →
+    ((k : ℕ) → k < count → slice_index_or sums k (pos 0) ≡ strided_sum taps samples (place k) step) →
+    (k : ℕ) → SFits w16 (slice_index_or (take count sums) k (pos 0))
+sums_have_16_bits count taps samples sums place step light bytes each k =
+    ⊎_elim
+    (λ below. subst (SFits w16) (sym (get_or-take count sums k (pos 0) below))
+    (sum_fits taps samples (place k) step (slice_index_or sums k (pos 0)) light bytes (each k below)))
+    (λ beyond. subst (SFits w16)
+    (sym (get_or_past (take count sums) k (pos 0) (omega (arith, beyond, length-take count sums))))
+    (record { sfits = omega arith }))
+    (cases_lt k count)
+
+pub shifted_small : (z : ℤ) → unsigned_abs z ≤ 33554432 → unsigned_abs (int_shr z 6) ≤ 33554432
+shifted_small (pos n) h = omega (arith, h)
+shifted_small (negsuc n) h = omega (arith, h)

@@ -1,11 +1,13 @@
 //! The filters of interpolation over a window.
-ghost use Rattle.std.specs.Prelude.{◌≡◌, ◌+◌, ◌-◌, ◌*◌, ◌/◌, ◌%◌, ◌^◌, ◌<◌, ◌≤◌, length, pos, slice_index_or, ◌+ℤ◌, ◌*ℤ◌};
+ghost use Rattle.std.specs.Prelude.{ℕ, ◌≡◌, ◌+◌, ◌-◌, ◌*◌, ◌/◌, ◌%◌, ◌^◌, ◌<◌, ◌≤◌, length, pos, slice_index_or, ◌+ℤ◌, ◌*ℤ◌};
 ghost use Rattle.std.specs.Int.{int_shr};
-ghost use Rattle.std.specs.Int.RustNames.{unsigned_abs};
+ghost use Rattle.std.specs.Int.RustNames.{FitsSigned, unsigned_abs};
+ghost use mir.Syntax.{w16};
 ghost use Rattle.hv_inter_model.specs.Interpolation.{weighted_sample};
 ghost use Rattle.hv_interp.specs.Filters.{HasFirst, HoldsTaps, filtered, place_of, strided_sum, strided_total, weight_of};
 
 use crate::lanes::{eight_sums, put_samples, put_sums};
+use crate::totals::{eight_totals, put_totals};
 
 /// The product of a tap and a number.
 #[inline(always)]
@@ -139,17 +141,64 @@ pub(crate) fn sum_rows<const T: usize>(
     }
 }
 
+/// The same taps, with 16 bits.
+#[inline(always)]
+fn widened<const T: usize>(taps: &[i8; T]) -> [i16; T]
+    requires { T ≤ 8 }
+    ensures { result ≡ taps.now }
+{
+    let mut wide = [0; T];
+    for k in 0..T {
+        wide[k] = i16::from(taps[k]);
+    }
+    wide
+}
+
+/// Filters sums of rows down their columns, the first eights of a block.
+///
+/// It isn't inlined, so that the compiler doesn't know the taps, and multiplies pairs.
+#[inline(never)]
+fn filter_eights<const T: usize>(
+    taps: &[i16; T],
+    sums: &[i16],
+    size: usize,
+    eights: usize,
+    out: &mut [u8],
+)
+    requires some { 0 < T }
+    requires most { T ≤ 8 }
+    requires even { 2 * (T / 2) ≡ T }
+    requires light { weight_of taps.now ≤ 112 }
+    requires numbers { (k : ℕ) → FitsSigned w16 (slice_index_or sums.now k (pos 0)) }
+    requires size { size ≤ 64 }
+    requires eights { 8 * eights ≤ size * size }
+    requires inside { (size + T - 1) * size ≤ length sums.now }
+    requires room { length out.old ≡ size * size }
+    ensures { HasFirst 0 (8 * eights)
+        (λ k. weighted_sample (int_shr (strided_total taps.now sums.now k size) 6)) out.new }
+{
+    for g in 0..eights {
+        let totals = eight_totals(taps, sums, 8 * g, size);
+        put_totals(totals, &mut out[8 * g..8 * g + 8]);
+    }
+}
+
 /// Filters sums of rows down their columns.
 pub(crate) fn filter_sums<const T: usize>(taps: &[i8; T], sums: &[i16], size: usize, out: &mut [u8])
     requires some { 0 < T }
     requires most { T ≤ 8 }
+    requires even { 2 * (T / 2) ≡ T }
+    requires light { weight_of taps.now ≤ 112 }
+    requires numbers { (k : ℕ) → FitsSigned w16 (slice_index_or sums.now k (pos 0)) }
     requires size { size ≤ 64 }
     requires inside { (size + T - 1) * size ≤ length sums.now }
     requires room { length out.old ≡ size * size }
     ensures { HasFirst 0 (size * size)
         (λ k. weighted_sample (int_shr (strided_total taps.now sums.now k size) 6)) out.new }
 {
-    for k in 0..out.len() {
+    let eights = out.len() / 8;
+    filter_eights(&widened(taps), sums, size, eights, out);
+    for k in 8 * eights..out.len() {
         out[k] = rounded(sum_of_numbers(taps, sums, k, size) >> 6);
     }
 }

@@ -6,9 +6,10 @@ ghost use Rattle.hv_interp.specs.Filters.{HasFirst, filtered_twice, predicted, w
 
 use crate::filters::{copy_block, filter, filter_sums, sum_rows};
 
-/// Filters a block of `size` columns and rows along rows and then down columns. Of the sums between
-/// there are 71 rows of 64 at most.
-pub(crate) fn filter_twice<const T: usize>(
+/// Filters a block of `size` columns and rows along rows and then down columns, with room for the
+/// sums between.
+#[inline(never)]
+fn filter_twice_in<const T: usize, const ROOM: usize>(
     across: &[i8; T],
     down: &[i8; T],
     samples: &[u8],
@@ -18,7 +19,41 @@ pub(crate) fn filter_twice<const T: usize>(
 )
     requires some { 0 < T }
     requires most { T ≤ 8 }
-    requires light { weight_of across.now ≤ 112 }
+    requires even { 2 * (T / 2) ≡ T }
+    requires across_light { weight_of across.now ≤ 112 }
+    requires down_light { weight_of down.now ≤ 112 }
+    requires stride { stride < 2 ^ 32 }
+    requires size { size ≤ 64 }
+    requires inside { HoldsBlock samples.now stride (size + T - 1) (size + T - 1) }
+    requires enough { (size + T - 1) * size ≤ ROOM }
+    requires room_most { ROOM ≤ 4544 }
+    requires room { length out.old ≡ size * size }
+    ensures { HasFirst 0 (size * size)
+        (filtered_twice across.now down.now samples.now stride size) out.new }
+{
+    let rows = size + T - 1;
+    let mut sums = [0; ROOM];
+    sum_rows(across, samples, stride, size, rows, &mut sums);
+    let sums = &sums[..];
+    filter_sums(down, &sums[..rows * size], size, out);
+}
+
+/// Filters a block of `size` columns and rows along rows and then down columns.
+///
+/// Each size has a function with room of its own, so that no call clears more than its share.
+fn filter_twice<const T: usize>(
+    across: &[i8; T],
+    down: &[i8; T],
+    samples: &[u8],
+    stride: usize,
+    size: usize,
+    out: &mut [u8],
+)
+    requires some { 0 < T }
+    requires most { T ≤ 8 }
+    requires even { 2 * (T / 2) ≡ T }
+    requires across_light { weight_of across.now ≤ 112 }
+    requires down_light { weight_of down.now ≤ 112 }
     requires stride { stride < 2 ^ 32 }
     requires size { size ≤ 64 }
     requires inside { HoldsBlock samples.now stride (size + T - 1) (size + T - 1) }
@@ -26,9 +61,15 @@ pub(crate) fn filter_twice<const T: usize>(
     ensures { HasFirst 0 (size * size)
         (filtered_twice across.now down.now samples.now stride size) out.new }
 {
-    let mut sums = [0; 4544];
-    sum_rows(across, samples, stride, size, size + T - 1, &mut sums);
-    filter_sums(down, &sums, size, out);
+    if size <= 8 {
+        filter_twice_in::<T, 120>(across, down, samples, stride, size, out);
+    } else if size <= 16 {
+        filter_twice_in::<T, 368>(across, down, samples, stride, size, out);
+    } else if size <= 32 {
+        filter_twice_in::<T, 1248>(across, down, samples, stride, size, out);
+    } else {
+        filter_twice_in::<T, 4544>(across, down, samples, stride, size, out);
+    }
 }
 
 /// Interpolates a block of `size` columns and rows, from samples that begin `before` columns and

@@ -8,6 +8,7 @@ mod predict;
 mod taps;
 #[cfg(test)]
 mod tests;
+mod totals;
 mod window;
 
 pub use predict::predict_inter;

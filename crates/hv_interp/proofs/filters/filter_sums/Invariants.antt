@@ -4,4 +4,5 @@ use Rattle.hv_interp.specs.Filters.{HasFirst, strided_total}
 use Rattle.hv_interp.proofs.filters.filter_sums.Given as goal
 
 abbrev pub invariant-loop-k : goal.invariant-loop-k
-invariant-loop-k g l = HasFirst 0 l.k (λ k. weighted_sample (int_shr (strided_total l.taps l.sums k l.size) 6)) l.out
+invariant-loop-k g l =
+    HasFirst 0 l.k (λ k. weighted_sample (int_shr (strided_total l.taps l.sums k l.size) 6)) l.out

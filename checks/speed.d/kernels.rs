@@ -856,15 +856,15 @@ fn scale(levels: &[i16], log2: u8, qp: u8, out: &mut [i32]) {
 }
 
 #[inline(never)]
-fn inter_both<const N: usize, const T: usize>(
+fn inter_both<const N: usize, const T: usize, const ROWS: usize>(
     across: &[i16; T],
     down: &[i16; T],
     reference: &[u8],
     stride: usize,
     out: &mut [u8],
 ) {
-    let mut sums = [[0i16; N]; 71];
-    for y in 0..N + T - 1 {
+    let mut sums = [[0i16; N]; ROWS];
+    for y in 0..ROWS {
         let rows: [&[u8; N]; T] = std::array::from_fn(|k| row::<N>(reference, y * stride + k));
         for x in 0..N {
             sums[y][x] = sum_16(across, &rows, x);
@@ -885,7 +885,7 @@ fn inter_both<const N: usize, const T: usize>(
 
 // Blocks whose windows lie inside the reference.
 #[inline(always)]
-fn inter_block<const N: usize, const T: usize>(
+fn inter_block<const N: usize, const T: usize, const ROWS: usize>(
     taps: (&[i16; T], &[i16; T]),
     fractions: (usize, usize),
     reference: &[u8],
@@ -897,7 +897,7 @@ fn inter_block<const N: usize, const T: usize>(
         (0, 0) => inter_copy::<N>(&reference[before * stride + before..], stride, out),
         (_, 0) => inter_filter::<N, T>(taps.0, &reference[before * stride..], stride, 1, out),
         (0, _) => inter_filter::<N, T>(taps.1, &reference[before..], stride, stride, out),
-        _ => inter_both::<N, T>(taps.0, taps.1, reference, stride, out),
+        _ => inter_both::<N, T, ROWS>(taps.0, taps.1, reference, stride, out),
     }
 }
 
@@ -922,14 +922,14 @@ fn inter(
     if luma {
         let taps = (&LUMA_TAPS[fractions.0], &LUMA_TAPS[fractions.1]);
         match size {
-            16 => inter_block::<16, 8>(taps, fractions, window, stride, out),
-            _ => inter_block::<64, 8>(taps, fractions, window, stride, out),
+            16 => inter_block::<16, 8, 23>(taps, fractions, window, stride, out),
+            _ => inter_block::<64, 8, 71>(taps, fractions, window, stride, out),
         }
     } else {
         let taps = (&CHROMA_TAPS[fractions.0], &CHROMA_TAPS[fractions.1]);
         match size {
-            8 => inter_block::<8, 4>(taps, fractions, window, stride, out),
-            _ => inter_block::<32, 4>(taps, fractions, window, stride, out),
+            8 => inter_block::<8, 4, 11>(taps, fractions, window, stride, out),
+            _ => inter_block::<32, 4, 35>(taps, fractions, window, stride, out),
         }
     }
 }
@@ -953,21 +953,15 @@ fn checksum_of_inter(luma: bool, size: usize, mv: (i16, i16), rounds: usize) -> 
         *sample = (state >> 24) as u8;
     }
     let (mv, size, stride) = (black_box(mv), black_box(size), black_box(WIDTH));
+    let mut block = [0; 4096];
+    let block = &mut block[..size * size];
     let mut sum = 0u64;
     for _ in 0..rounds {
         for place in 0..CALLS {
-            let mut block = [0; 4096];
+            block.fill(0);
             let at = (64 + place, 16 + place % 32);
-            inter(
-                &reference,
-                stride,
-                luma,
-                at,
-                size,
-                mv,
-                &mut block[..size * size],
-            );
-            sum = sum.wrapping_add(u64::from(black_box(&block)[place]));
+            inter(&reference, stride, luma, at, size, mv, block);
+            sum = sum.wrapping_add(u64::from(black_box(&*block)[place]));
         }
     }
     sum

@@ -60,6 +60,60 @@ fn one_sample_among_equal_ones(rt: HostRuntime) -> Result<(), Fail> {
     Ok(())
 }
 
+/// One sample of 192 among others of 128, predicted at its own place: 128 and a 64th of the product
+/// of two taps, rounded. A row for each fraction downwards. First the taps of that place, then, one
+/// sample to the right, along rows the taps of the place before.
+#[rattlefmt::skip]
+const LUMA: [[[u8; 4]; 4]; 2] = [
+    [ // 64, 58, 40, 17 by the same
+        [192, 186, 168, 145], [186, 181, 164, 143], [168, 164, 153, 139], [145, 143, 139, 133],
+    ],
+    [ // 0, -10, -11, -5 by 64, 58, 40, 17
+        [128, 118, 117, 123], [128, 119, 118, 123], [128, 122, 121, 125], [128, 125, 125, 127],
+    ],
+];
+
+/// The same of chroma.
+#[rattlefmt::skip]
+const CHROMA: [[[u8; 8]; 8]; 2] = [
+    [ // 64, 58, 54, 46, 36, 28, 16, 10 by the same
+        [192, 186, 182, 174, 164, 156, 144, 138], [186, 181, 177, 170, 161, 153, 143, 137],
+        [182, 177, 174, 167, 158, 152, 142, 136], [174, 170, 167, 161, 154, 148, 140, 135],
+        [164, 161, 158, 154, 148, 144, 137, 134], [156, 153, 152, 148, 144, 140, 135, 132],
+        [144, 143, 142, 140, 137, 135, 132, 131], [138, 137, 136, 135, 134, 132, 131, 130],
+    ],
+    [ // 0, -2, -4, -6, -4, -4, -2, -2 by 64, 58, 54, 46, 36, 28, 16, 10
+        [128, 126, 124, 122, 124, 124, 126, 126], [128, 126, 124, 123, 124, 124, 126, 126],
+        [128, 126, 125, 123, 125, 125, 126, 126], [128, 127, 125, 124, 125, 125, 127, 127],
+        [128, 127, 126, 125, 126, 126, 127, 127], [128, 127, 126, 125, 126, 126, 127, 127],
+        [128, 128, 127, 127, 127, 127, 128, 128], [128, 128, 127, 127, 127, 127, 128, 128],
+    ],
+];
+
+/// Each fraction of luma and of chroma, by two vectors.
+#[test]
+fn each_fraction(rt: HostRuntime) -> Result<(), Fail> {
+    let mut reference = Plane::new(rt.alloc(), 16, 16, 128)?;
+    reference.set(8, 8, 192);
+    for whole in 0..2 {
+        for y in 0..4 {
+            for x in 0..4 {
+                let mv = ((4 * whole + x) as i16, y as i16);
+                let luma = block::<64>(&reference, true, (4, 4), 8, mv);
+                assert_eq!(rt; luma[36], LUMA[whole][y][x], "luma {whole} {x} {y}");
+            }
+        }
+        for y in 0..8 {
+            for x in 0..8 {
+                let mv = ((8 * whole + x) as i16, y as i16);
+                let chroma = block::<64>(&reference, false, (4, 4), 8, mv);
+                assert_eq!(rt; chroma[36], CHROMA[whole][y][x], "chroma {whole} {x} {y}");
+            }
+        }
+    }
+    Ok(())
+}
+
 /// A reference of three columns and two rows: outside stands the nearest sample.
 #[test]
 fn reference_smaller_than_the_block(rt: HostRuntime) -> Result<(), Fail> {

@@ -3,6 +3,7 @@ use Rattle.std.proofs.Common.{sym, drop, length-drop, length-take, ◌-◌, ◌�
 use Rattle.std.proofs.lemmas.Bool.{cases_lt}
 use Rattle.std.proofs.lemmas.Slice.{take-put_mid}
 use borrow.Rule.Slice.PartMut.{put_mid}
+use Rattle.std.proofs.Math.Nat.{add-mul, mul-le-mul_right}
 use Rattle.std.proofs.lemmas.Nat.{mod-mul-add, div-mul-add, mul-add-lt}
 use Rattle.std.proofs.lemmas.List.{get_or-set_same, get_or-set_other, get_or-take, get_or-drop, get_or_append_left, get_or-append_right, length-take-le}
 use Rattle.hv_interp.specs.Filters.{HasFirst, place_of}
@@ -49,15 +50,27 @@ row_part {A} samples at n = take (at + n - at) (drop at samples)
 pub length-row_part : (samples : List ℕ) (at n : ℕ) → at + n ≤ length samples → length (row_part samples at n) ≡ n
 length-row_part samples at n room = length-take (at + n - at) (drop at samples) ∙ omega (arith, length-drop at samples, room)
 
-pub row_copied : (samples : List ℕ) (stride n y i : ℕ) → i < n →
-    slice_index_or (row_part samples (y * stride) n) i 0 ≡ slice_index_or samples (place_of n stride (y * n + i)) 0
-row_copied samples stride n y i below =
-    get_or-take (y * stride + n - y * stride) (drop (y * stride) samples) i 0 (omega (arith, below)) ∙
-    get_or-drop (y * stride) samples i 0 ∙ ap (λ k. slice_index_or samples k 0) (sym (place_is n stride y i below))
-
 -- some columns ahead of column x of row y
 pub place_ahead : (n stride y x i : ℕ) → x + i < n → y * stride + x + i ≡ place_of n stride (y * n + x + i)
 place_ahead n stride y x i below =
     let same : y * n + x + i ≡ y * n + (x + i) = omega arith in
     let here : y * stride + x + i ≡ y * stride + (x + i) = omega arith in
     here ∙ sym (ap (place_of n stride) same ∙ place_is n stride y (x + i) below)
+
+-- so many samples of a row from column x on, copied behind those that are right
+pub part_copied : (samples out part : List ℕ) (n stride y x count next : ℕ) → x + count ≤ n → y < n → length out ≡ n * n →
+    y * stride + x + count ≤ length samples → part ≡ row_part samples (y * stride + x) count → next ≡ y * n + x + count →
+    HasFirst 0 (y * n + x) (λ k. slice_index_or samples (place_of n stride k) 0) out →
+    HasFirst 0 next (λ k. slice_index_or samples (place_of n stride k) 0) (put_mid (y * n + x) (y * n + x + count - (y * n + x)) out part)
+part_copied samples out part n stride y x count next across down whole inside is end before =
+    let from : ℕ = y * stride + x in
+    let all : length part ≡ count = ap (λ l. length l) is ∙ length-row_part samples from count inside in
+    let rows : y * n + n ≤ n * n = omega (arith, add-mul y 1 n, mul-le-mul_right n down) in
+    HasFirst-put 0 (y * n + x) (y * n + x + count - (y * n + x)) next (λ k. slice_index_or samples (place_of n stride k) 0) out part
+    (omega (arith, rows, whole, across)) before
+    (λ i below.
+    let low : i < count = omega (arith, below, all) in
+    ap (λ l. slice_index_or l i 0) is ∙
+    get_or-take (from + count - from) (drop from samples) i 0 (omega (arith, low)) ∙ get_or-drop from samples i 0 ∙
+    ap (λ k. slice_index_or samples k 0) (place_ahead n stride y x i (omega (arith, low, across))))
+    (omega (arith, end, all))

@@ -8,6 +8,7 @@ ghost use Rattle.hv_interp.specs.Filters.{HasFirst, HoldsTaps, filtered, place_o
 
 use crate::lanes::{eight_sums, put_samples, put_sums};
 use crate::totals::{eight_totals, put_totals};
+use std::simd::prelude::*;
 
 /// The product of a tap and a number.
 #[inline(always)]
@@ -203,6 +204,26 @@ pub(crate) fn filter_sums<const T: usize>(taps: &[i8; T], sums: &[i16], size: us
     }
 }
 
+/// Copies 32 samples.
+#[inline(always)]
+fn copy_32(samples: &[u8], out: &mut [u8])
+    requires samples { length samples.now ≡ 32 }
+    requires room { length out.old ≡ 32 }
+    ensures { out.new ≡ samples.now }
+{
+    u8x32::from_slice(samples).copy_to_slice(out);
+}
+
+/// Copies eight samples.
+#[inline(always)]
+fn copy_8(samples: &[u8], out: &mut [u8])
+    requires samples { length samples.now ≡ 8 }
+    requires room { length out.old ≡ 8 }
+    ensures { out.new ≡ samples.now }
+{
+    u8x8::from_slice(samples).copy_to_slice(out);
+}
+
 /// Copies a block of `size` columns and rows.
 pub(crate) fn copy_block(samples: &[u8], stride: usize, size: usize, out: &mut [u8])
     requires stride { stride < 2 ^ 32 }
@@ -213,7 +234,24 @@ pub(crate) fn copy_block(samples: &[u8], stride: usize, size: usize, out: &mut [
         (λ k. slice_index_or samples.now (place_of size stride k) 0) out.new }
 {
     for y in 0..size {
-        let row = &mut out[y * size..y * size + size];
-        row.copy_from_slice(&samples[y * stride..y * stride + size]);
+        let (from, to) = (y * stride, y * size);
+        for g in 0..size / 32 {
+            let x = 32 * g;
+            copy_32(
+                &samples[from + x..from + x + 32],
+                &mut out[to + x..to + x + 32],
+            );
+        }
+        for e in 0..size % 32 / 8 {
+            let x = size / 32 * 32 + 8 * e;
+            copy_8(
+                &samples[from + x..from + x + 8],
+                &mut out[to + x..to + x + 8],
+            );
+        }
+        for r in 0..size % 8 {
+            let x = size / 8 * 8 + r;
+            out[to + x] = samples[from + x];
+        }
     }
 }

@@ -1,5 +1,5 @@
 -- Transform blocks of a coding tree block by their nodes: which samples come before them (6.5.2),
--- and what is decoded behind them.
+-- and what an intra block is decoded to.
 use Rattle.std.proofs.Common.{◌≡◌, ℕ, zero, suc, ◌+◌, ◌*◌, ◌/◌, ◌%◌, ◌^◌, ◌<◌, ◌≤◌, Bool, true, false, List, refl, sym, ap, ◌∙◌, arith}
 use Rattle.std.specs.Prelude.{nat_eq, nat_le, nat_lt, not, ◌&&◌, ◌||◌, Some, ℤ}
 use Rattle.std.proofs.lemmas.Bool.{and_parts, eq-eqb, leb-true}
@@ -12,32 +12,23 @@ use Rattle.hv_tree_model.specs.Trees.{Intra}
 use Rattle.hv_tree_model.specs.Sites.{address_of, column_of, row_of, squares}
 use Rattle.hv_tree_model.proofs.NodeLemmas.{IsNode}
 use Rattle.hv_recon_model.specs.Reconstruction.{Component, square_at, is_in, with_block, decoded_block}
-use Rattle.hv_recon_model.specs.SeenSamples.{Spot, SamplesAround, IsSeen, IsPut, seen_line, seen_block}
-use Rattle.hv_recon_model.proofs.SeenLemmas.{FitsIn, FitsInPicture, ComesBetween, neighbours_seen, seen_behind}
+use Rattle.hv_recon_model.specs.SeenSamples.{Spot, SamplesAround, IsSeen, seen_line, seen_block}
+use Rattle.hv_recon_model.proofs.SeenLemmas.{FitsIn, ComesBetween, neighbours_seen}
 
--- ---- what is decoded behind a transform block
+-- ---- what an intra block is decoded to
 
-pub block_behind : (s : Spot) (around : SamplesAround) (old new : List ℕ)
-    (address next x y log2 mode : ℕ) (is_luma : Bool) (qp : ℕ) (planes : List Plane)
-    (levels : List ℤ) (samples : Component) → FitsIn s.side x y log2 → FitsInPicture s x y log2 →
-    ComesBetween s.side x y log2 address next →
-    IsPut s.side x y log2
-    (seen_block log2 mode is_luma qp levels (seen_line s around old address x y log2)) old new →
-    IsSeen s around old address samples →
-    (behind : Component) ×
-    (decoded_block (Intra mode) is_luma qp planes (square_at (s.left + x) (s.top + y) log2) levels
-    samples ≡ Some behind) ×
-    IsSeen s around new next behind
+pub intra_block : (s : Spot) (around : SamplesAround) (own : List ℕ)
+    (address x y log2 mode : ℕ) (is_luma : Bool) (qp : ℕ) (planes : List Plane) (levels : List ℤ)
+    (samples : Component) → FitsIn s.side x y log2 → IsSeen s around own address samples →
+    decoded_block (Intra mode) is_luma qp planes (square_at (s.left + x) (s.top + y) log2) levels
+    samples ≡
+    Some (with_block samples (square_at (s.left + x) (s.top + y) log2)
+    (seen_block log2 mode is_luma qp levels (seen_line s around own address x y log2)))
 unfolding decoded_block
-block_behind s around old new address next x y log2 mode is_luma qp planes levels samples fits
-    inside between put seen =
-    let square = square_at (s.left + x) (s.top + y) log2 in
-    let block = seen_block log2 mode is_luma qp levels (seen_line s around old address x y log2) in (
-      with_block samples square block,
-      ap (λ line. Some (with_block samples square (seen_block log2 mode is_luma qp levels line)))
-          (neighbours_seen s around old address samples x y log2 fits seen),
-      seen_behind s around block old new address next x y log2 samples fits inside between put seen,
-    )
+intra_block s around own address x y log2 mode is_luma qp planes levels samples fits seen =
+    ap (λ line. Some (with_block samples (square_at (s.left + x) (s.top + y) log2)
+    (seen_block log2 mode is_luma qp levels line)))
+    (neighbours_seen s around own address samples x y log2 fits seen)
 
 -- ---- the squares of a node
 

@@ -1,5 +1,5 @@
--- The four blocks around a coding tree block, and the reference pictures, determine what is decoded
--- in it.
+-- The four blocks around a coding tree block, and the reference pictures, determine what is
+-- decoded in it.
 use Rattle.std.specs.Prelude.{◌≡◌, ℕ, ◌+◌, ◌-◌, ◌*◌, ◌/◌, ◌<◌, List, slice_get, Some}
 use Rattle.hv_types.specs.declared.picture.Picture.{Picture}
 use Rattle.hv_tree_model.specs.Trees.{Tree, greatest_size}

@@ -1,6 +1,6 @@
--- The decoded picture before the in-loop filters (8.4 to 8.6): every transform block of the picture,
--- in decoding order, is predicted from samples that were decoded before it or from a reference
--- picture, and its residual is added.
+-- The decoded picture before the in-loop filters (8.4 to 8.6): every transform block of the
+-- picture, in decoding order, is predicted from samples that were decoded before it or from a
+-- reference picture, and its residual is added.
 use Rattle.std.specs.Prelude.{ℕ, zero, suc, ◌+◌, ◌-◌, ◌*◌, ◌/◌, ◌^◌, Bool, true, false, cond, nat_eq, nat_lt, nat_le, ◌&&◌, ◌||◌, List, [], ◌∷◌, ◌++◌, map, slice_get, slice_index_or, Option, Some, None, option_and_then, option_map, ℤ, pos, ◌+ℤ◌}
 use Rattle.hv_lemmas.specs.Clipping.{clip1}
 use Rattle.hv_lemmas.specs.Lists.{tabulate}

@@ -1,5 +1,5 @@
-//! The four blocks around a coding tree block, and the reference pictures, determine what is decoded
-//! in it.
+//! The four blocks around a coding tree block, and the reference pictures, determine what is
+//! decoded in it.
 
 ghost use Rattle.hv_recon_model.specs.LocalityLaws.{BlocksAreLocal, PicturesAreLocal};
 

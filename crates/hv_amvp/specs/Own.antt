@@ -3,7 +3,7 @@ use Rattle.std.specs.Prelude.{ℕ, List, map, take}
 use Rattle.hv_plan.specs.declared.prediction.Unit.{Unit}
 use Rattle.hv_tree_model.specs.EarlierUnits.{Square}
 use Rattle.hv_tree_model.specs.Plans.{coded_square}
-use Rattle.hv_vector_model.specs.Vectors.{unit_with_vector}
+use Rattle.hv_inter_model.specs.UnitVectors.{unit_with_vector}
 
 abbrev pub square_with_vector : Unit → Square
 square_with_vector unit = coded_square (unit_with_vector unit)

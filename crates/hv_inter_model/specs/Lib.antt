@@ -1,2 +1,3 @@
 pub mod Interpolation
 pub mod InterpolationLaws
+pub mod UnitVectors

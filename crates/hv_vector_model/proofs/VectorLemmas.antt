@@ -13,7 +13,8 @@ use Rattle.hv_tree_model.specs.Plans.{Plan, UnitEdges, UnitsAround, look_around}
 use Rattle.hv_unit_model.specs.PlanLaws.{squares_before, unit_of_plan, AreSeen, LieAround}
 use Rattle.hv_unit_model.proofs.AroundLemmas.{blocks_around}
 use Rattle.hv_unit_model.proofs.GeometryLemmas.{place_of_address}
-use Rattle.hv_vector_model.specs.Vectors.{unit_with_vector, plan_with_vectors, edges_with_vectors, around_with_vectors}
+use Rattle.hv_inter_model.specs.UnitVectors.{unit_with_vector}
+use Rattle.hv_vector_model.specs.Vectors.{plan_with_vectors, edges_with_vectors, around_with_vectors}
 use Rattle.hv_vector_model.specs.VectorLaws.{NeighbourhoodsInBlockAreThoseInPicture}
 
 -- ---- edges of plans that know their vectors

@@ -4,9 +4,7 @@
 use Rattle.std.specs.Prelude.{ℕ, zero, suc, ◌+◌, ◌-◌, ◌*◌, ◌^◌, List, [], ◌∷◌, map, slice_index_or, Option, Some, None, ◌+ℤ◌}
 use Rattle.std.specs.Int.{w16, int_wrap}
 use Rattle.hv_plan.specs.declared.prediction.Mv.{Mv}
-use Rattle.hv_plan.specs.declared.prediction.Pred.{Pred}
-use Rattle.hv_plan.specs.declared.prediction.Pred.TheVariants.{Intra as IntraPred, Inter as InterPred}
-use Rattle.hv_plan.specs.declared.prediction.Unit.{Unit}
+use Rattle.hv_inter_model.specs.UnitVectors.{unit_with_vector}
 use Rattle.hv_tree_model.specs.Trees.{Motion, Prediction, Intra, Inter, Tree, Leaf, Split, Outside, greatest_size}
 use Rattle.hv_tree_model.specs.Sites.{Site, column_of, row_of, squares}
 use Rattle.hv_tree_model.specs.EarlierUnits.{Square, Unavailable, Coded, after, Look, look_picture}
@@ -95,13 +93,6 @@ trees_with_vectors distances (site ∷ sites) done (tree ∷ trees) =
     here ∷ trees_with_vectors distances sites (after greatest_size done here) trees
 
 -- ---- plans, whose units know their vectors
-
-abbrev pub pred_with_vector : Pred → Pred
-pred_with_vector (IntraPred mode) = IntraPred mode
-pred_with_vector (InterPred reference mv flag mvd) = InterPred reference mv flag mv
-
-abbrev pub unit_with_vector : Unit → Unit
-unit_with_vector unit = record unit { pred = pred_with_vector unit.pred }
 
 abbrev pub plan_with_vectors : Plan → Plan
 plan_with_vectors plan = record plan { units = map unit_with_vector plan.units }

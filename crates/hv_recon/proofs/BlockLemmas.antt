@@ -1,6 +1,6 @@
 -- One colour component of a picture whose first blocks are decoded: from the next block it is seen
 -- by the edges of the blocks around, and behind it one block more is decoded.
-use Rattle.std.proofs.Common.{◌≡◌, ℕ, zero, suc, ◌+◌, ◌-◌, ◌*◌, ◌/◌, ◌%◌, ◌<◌, ◌≤◌, Bool, true, false, cond, List, [], ◌∷◌, length, refl, sym, ap, ap₂, ◌∙◌, arith, inl, inr}
+use Rattle.std.proofs.Common.{◌≡◌, ℕ, zero, suc, ◌+◌, ◌-◌, ◌*◌, ◌/◌, ◌%◌, ◌<◌, ◌≤◌, Bool, true, false, cond, List, length, refl, sym, ap, ap₂, ◌∙◌, arith, inl, inr}
 use Rattle.std.specs.Prelude.{nat_lt, nat_le, ◌&&◌, slice_get, slice_index, Option, Some, None, option_map}
 use Rattle.std.proofs.Math.Nat.{mod-lt, div-add-mod, mul_comm, mul-le-mul_left, mul-le-mul_right, add-mul}
 use Rattle.std.proofs.lemmas.Nat.{mod-mul-add, div-mul-add}

@@ -7,6 +7,7 @@ pub mod LeafLemmas
 mod LineLemmas
 pub mod PutRowLemmas
 mod PutUnitLemmas
+pub mod RebuiltLeafLemmas
 pub mod BlockLemmas
 pub mod ChoiceLemmas
 pub mod NextBlockLemmas

@@ -5,12 +5,12 @@ use Rattle.std.specs.Prelude.{nat_lt, ◌&&◌, List, slice_get, Some, None, opt
 use Rattle.std.proofs.Math.Dec.{lit<}
 use Rattle.std.proofs.lemmas.Bool.{cases_lt, and_parts, ltb-true}
 use Rattle.std.proofs.lemmas.Bool.Decides.{nat_tests}
+use Rattle.hv_types.specs.declared.picture.Picture.{Picture}
 use Rattle.hv_block.specs.declared.edges.Neighbours.{Neighbours}
-use Rattle.hv_block.specs.Plans.{CtbPlan}
 use Rattle.hv_block.specs.Samples.{Samples}
 use Rattle.hv_tree_model.specs.Trees.{Tree, Split, Outside, side, greatest_size}
 use Rattle.hv_tree_model.specs.Sites.{Site, ctb_side, ctb_column, ctb_row, address_of, column_of, row_of, x0, y0, squares, is_outside}
-use Rattle.hv_tree_model.specs.Plans.{is_leaf, tree_at}
+use Rattle.hv_tree_model.specs.Plans.{Plan, is_leaf, tree_at}
 use Rattle.hv_tree_model.proofs.NodeLemmas.{IsNode, child_of}
 use Rattle.hv_unit_model.proofs.GeometryLemmas.{address_of_place, square_of_node}
 use Rattle.hv_recon_model.specs.Reconstruction.{Component, Decoded, decoded_tree}
@@ -18,22 +18,22 @@ use Rattle.hv_recon_model.proofs.DecodedLemmas.{Step, and_then}
 use Rattle.hv_recon_model.proofs.PictureLemmas.{corner_column, corner_row}
 use Rattle.hv_recon_model.specs.SeenSamples.{Spot, SamplesAround, IsSeen, luma_spot, chroma_spot, comes_before, sample_at_left, sample_above, sample_around, is_in_picture, look_around}
 use Rattle.hv_recon.specs.Leaves.{AreSeen, luma_around, cb_around, cr_around, leaf_of_plan}
-use Rattle.hv_recon.specs.DecodedNodes.{node_of_plan, is_whole, IsNodeOfBlock, LeavesDecodeAsNodes, NodesOutsideDecodeNothing, SplitNodesDecodeByChildren, GreatestNodesAreBlocks}
+use Rattle.hv_recon.specs.DecodedNodes.{is_whole, IsNodeOfBlock, LeavesDecodeAsNodes, NodesOutsideDecodeNothing, SplitNodesDecodeByChildren, GreatestNodesAreBlocks}
 use Rattle.hv_lemmas.proofs.BooleanLemmas.{same_where, other_where}
 
 -- ---- a leaf
 
-pub leaf_node : (plan : CtbPlan) (size address : ℕ) (place : Site) →
+pub leaf_node : (plan : Plan) (size address : ℕ) (place : Site) →
     is_outside place address ≡ false →
     is_whole size (slice_get plan.units address) ≡ true →
-    node_of_plan place plan size address ≡ leaf_of_plan plan size address
+    tree_at place plan size address ≡ leaf_of_plan plan size address
 unfolding tree_at
 leaf_node plan zero address place inside whole = ap (λ t. cond t Outside
     (leaf_of_plan plan zero address)) inside
 leaf_node plan (suc size) address place inside whole = rw (inside, whole) refl
 
 pub leaf_as_node : LeavesDecodeAsNodes
-leaf_as_node plan size address place qp near old new inside whole leaf d seen =
+leaf_as_node plan size address place qp references near old new inside whole leaf d seen =
     let r = leaf d seen in
     let same = leaf_node plan size address place inside whole in (
       r.0,
@@ -43,14 +43,14 @@ leaf_as_node plan size address place qp near old new inside whole leaf d seen =
 
 -- ---- a node that is split
 
-pub split_node : (plan : CtbPlan) (size address : ℕ) (place : Site) →
+pub split_node : (plan : Plan) (size address : ℕ) (place : Site) →
     is_outside place address ≡ false →
     is_leaf (suc size) (slice_get plan.units address) ≡ false →
-    node_of_plan place plan (suc size) address ≡
-    Split (node_of_plan place plan size address)
-    (node_of_plan place plan size (address + squares size))
-    (node_of_plan place plan size (address + 2 * squares size))
-    (node_of_plan place plan size (address + 3 * squares size))
+    tree_at place plan (suc size) address ≡
+    Split (tree_at place plan size address)
+    (tree_at place plan size (address + squares size))
+    (tree_at place plan size (address + 2 * squares size))
+    (tree_at place plan size (address + 3 * squares size))
 unfolding tree_at
 split_node plan size address place inside split = rw (inside, split) refl
 
@@ -78,21 +78,23 @@ split_decodes qp size x y a b c t d d1 d2 d3 d4 first second third fourth =
     three fourth
 
 -- a child's corner, and what is decoded there
-at_child : (qp size : ℕ) (place : Site) (plan : CtbPlan) (z x y : ℕ) (d e : Decoded) →
+at_child : (qp size : ℕ) (place : Site) (plan : Plan) (z x y : ℕ) (d e : Decoded) →
     x0 place z ≡ x → y0 place z ≡ y →
-    decoded_tree qp size (x0 place z) (y0 place z) (node_of_plan place plan size z) d ≡ Some e →
-    decoded_tree qp size x y (node_of_plan place plan size z) d ≡ Some e
+    decoded_tree qp size (x0 place z) (y0 place z) (tree_at place plan size z) d ≡ Some e →
+    decoded_tree qp size x y (tree_at place plan size z) d ≡ Some e
 at_child qp size place plan z x y d e column row done =
-    subst (λ u. decoded_tree qp size u y (node_of_plan place plan size z) d ≡ Some e) column
-    (subst (λ v. decoded_tree qp size (x0 place z) v (node_of_plan place plan size z) d ≡ Some e)
+    subst (λ u. decoded_tree qp size u y (tree_at place plan size z) d ≡ Some e) column
+    (subst (λ v. decoded_tree qp size (x0 place z) v (tree_at place plan size z) d ≡ Some e)
     row done)
 
-seen_from : (place : Site) (near : Neighbours) (own : Samples) (a b : ℕ) (d : Decoded) → a ≡ b →
-    AreSeen place near own a d → AreSeen place near own b d
-seen_from place near own a b d same seen = subst (λ n. AreSeen place near own n d) same seen
+seen_from : (place : Site) (references : List Picture) (near : Neighbours) (own : Samples)
+    (a b : ℕ) (d : Decoded) → a ≡ b → AreSeen place references near own a d →
+    AreSeen place references near own b d
+seen_from place references near own a b d same seen =
+    subst (λ n. AreSeen place references near own n d) same seen
 
 pub split_by_children : SplitNodesDecodeByChildren
-split_by_children plan size address place qp near s0 s1 s2 s3 s4 node inside split
+split_by_children plan size address place qp references near s0 s1 s2 s3 s4 node inside split
     first second third fourth d seen =
     let n : ℕ = squares size in
     let x : ℕ = x0 place address in
@@ -111,9 +113,11 @@ split_by_children plan size address place qp near s0 s1 s2 s3 s4 node inside spl
     let r1 = first d seen in
     let r2 = second r1.0 r1.2 in
     let r3 = third r2.0
-    (seen_from place near s2 (address + n + n) (address + 2 * n) r2.0 (omega arith) r2.2) in
+    (seen_from place references near s2 (address + n + n) (address + 2 * n) r2.0 (omega arith)
+    r2.2) in
     let r4 = fourth r3.0
-    (seen_from place near s3 (address + 2 * n + n) (address + 3 * n) r3.0 (omega arith) r3.2) in (
+    (seen_from place references near s3 (address + 2 * n + n) (address + 3 * n) r3.0 (omega arith)
+    r3.2) in (
       r4.0,
       ap (λ t. decoded_tree qp (suc size) x y t d) (split_node plan size address place inside split)
           ∙ split_decodes qp size x y _ _ _ _ d r1.0 r2.0 r3.0 r4.0 r1.1
@@ -123,13 +127,14 @@ split_by_children plan size address place qp near s0 s1 s2 s3 s4 node inside spl
           (omega (arith, two.column)) (omega (arith, two.row)) r3.1)
           (at_child qp size place plan (address + 3 * n) (x + half) (y + half) r3.0 r4.0
           (omega (arith, three.column)) (omega (arith, three.row)) r4.1),
-      seen_from place near s4 (address + 3 * n + n) (address + 4 * n) r4.0 (omega arith) r4.2,
+      seen_from place references near s4 (address + 3 * n + n) (address + 4 * n) r4.0 (omega arith)
+          r4.2,
     )
 
 -- ---- the whole block
 
 pub greatest_node_is_block : GreatestNodesAreBlocks
-greatest_node_is_block plan place qp near samples node own d seen =
+greatest_node_is_block plan place qp references near samples node own d seen =
     let r = node own d seen in (
       r.0,
       at_child qp greatest_size place plan 0 (ctb_side * ctb_column place)
@@ -241,8 +246,8 @@ module _ (place : Site) (s : Spot) (fits : FitsIn place s) (size address : ℕ)
         seen.sample x y left right top low ∙ look_later around own x y;
   }
 
-pub outside_node : (plan : CtbPlan) (size address : ℕ) (place : Site) →
-    is_outside place address ≡ true → node_of_plan place plan size address ≡ Outside
+pub outside_node : (plan : Plan) (size address : ℕ) (place : Site) →
+    is_outside place address ≡ true → tree_at place plan size address ≡ Outside
 unfolding tree_at
 outside_node plan zero address place outside = rw outside refl
 outside_node plan (suc size) address place outside = rw outside refl
@@ -253,7 +258,7 @@ nothing_more qp zero x y d = refl
 nothing_more qp (suc size) x y d = refl
 
 pub outside_decodes_nothing : NodesOutsideDecodeNothing
-outside_decodes_nothing plan size address place qp near samples node outside d seen =
+outside_decodes_nothing plan size address place qp references near samples node outside d seen =
     let is_node = node_of_block size address node in
     let luma = luma_fits place in
     let chroma = chroma_fits place in (
@@ -268,5 +273,6 @@ outside_decodes_nothing plan size address place qp near samples node outside d s
             (cb_around near) samples.cb d.cb seen.cb;
         cr = seen_later place (chroma_spot place) chroma size address is_node outside
             (cr_around near) samples.cr d.cr seen.cr;
+        same_references = seen.same_references;
       },
     )

@@ -1,16 +1,14 @@
--- A picture whose blocks decode by the edges of the blocks around each: what is decoded behind each
--- block, and the picture that is put together from them.
+-- A picture whose blocks decode by the edges of the blocks around each and the reference pictures:
+-- what is decoded behind each block, and the picture that is put together from them.
 use Rattle.std.proofs.Common.{◌≡◌, ℕ, zero, suc, ◌+◌, ◌*◌, ◌/◌, ◌%◌, ◌<◌, ◌≤◌, true, List, [], ◌∷◌, length, refl, sym, ap, ap₂, subst, ◌∙◌, arith}
 use Rattle.std.specs.Prelude.{nat_lt, ◌&&◌, map, slice_get, slice_index_or, Option, Some, None, option_map, option_and_then}
-use Rattle.std.specs.List.{concat}
 use Rattle.std.proofs.Math.Dec.{lit<}
 use Rattle.std.proofs.Math.Nat.{mod-lt, mul-le-mul_right, add-mul}
 use Rattle.std.proofs.lemmas.Bool.{ltb-true}
 use Rattle.std.proofs.lemmas.Bool.Decides.{nat_tests}
 use Rattle.std.proofs.lemmas.Option.{slice_get-get_or, slice_get-map, get_or_from_slice_get}
-use Rattle.hv_lemmas.specs.Lists.{tabulate}
-use Rattle.hv_lemmas.proofs.ListLemmas.{tabulate-same, there_is}
-use Rattle.hv_types.specs.Samples.{plane_of, plane_by_rows}
+use Rattle.hv_lemmas.proofs.ListLemmas.{there_is}
+use Rattle.hv_types.specs.declared.picture.Picture.{Picture}
 use Rattle.hv_block.specs.declared.block.Block.{Block}
 use Rattle.hv_block.specs.Around.{neighbours_of}
 use Rattle.hv_block.specs.Samples.{Samples}
@@ -21,8 +19,8 @@ use Rattle.hv_recon_model.specs.Reconstruction.{Decoded, nothing_decoded, decode
 use Rattle.hv_recon_model.proofs.BesideLemmas.{KeepBeside, KeptBeside, tree_beside}
 use Rattle.hv_recon_model.proofs.PictureLemmas.{block_below}
 use Rattle.hv_recon_model.proofs.WholeLocalityLemmas.{some_of_product}
-use Rattle.hv_recon.specs.Leaves.{AreSeen, luma_around, cb_around, cr_around, lists_of_plan}
-use Rattle.hv_recon.specs.DecodedBlocks.{trees_from, BlocksDecode, sample_of_blocks, AreOfBlocks, picture_of_blocks, SamplesAreThoseOfBlocks, PicturesAreTheirBlocks}
+use Rattle.hv_recon.specs.Leaves.{AreSeen, luma_around, cb_around, cr_around, lists_with_vectors}
+use Rattle.hv_recon.specs.DecodedBlocks.{moving_trees_from, BlocksDecode, sample_of_blocks, AreOfBlocks, picture_of_blocks, SamplesAreThoseOfBlocks, PicturesAreTheirBlocks}
 use Rattle.hv_recon.proofs.ChoiceLemmas.{where_is, where_never, none_either}
 use Rattle.hv_recon.proofs.BlockLemmas.{Part, IsPart, Grid, AreWhole, sample_before, decoded_before, known_sample, seen_next}
 use Rattle.hv_recon.proofs.NextBlockLemmas.{LiesInBlock, decoded_next}
@@ -85,7 +83,7 @@ chroma_grid width height = record {
 
 -- ---- the first n blocks are decoded
 
-module _ (width height : ℕ) (blocks : List Block) where
+module _ (width height : ℕ) (references : List Picture) (blocks : List Block) where
   pub record BlocksAreDecoded (n : ℕ) (d : Decoded) : Type 0 where
     pub luma :
         (x y : ℕ) →
@@ -94,6 +92,7 @@ module _ (width height : ℕ) (blocks : List Block) where
         (x y : ℕ) → d.cb x y ≡ decoded_before cb_part (chroma_grid width height) blocks n x y
     pub cr :
         (x y : ℕ) → d.cr x y ≡ decoded_before cr_part (chroma_grid width height) blocks n x y
+    pub same_references : d.references ≡ references
 
   none_before : (p : Part) (g : Grid) (x y : ℕ) → decoded_before p g blocks 0 x y ≡ None
   none_before p g x y =
@@ -101,11 +100,12 @@ module _ (width height : ℕ) (blocks : List Block) where
       none_either (nat_lt x g.width && nat_lt y g.height) (sample_before p blocks 0 k _)
       (where_never (nat_lt k 0) _ None (λ t. absurd (omega (arith, ltb-true _ _ t))))
 
-  pub none_decoded : BlocksAreDecoded 0 nothing_decoded
+  pub none_decoded : BlocksAreDecoded 0 (nothing_decoded references)
   none_decoded = record {
     luma = λ x y. sym (none_before luma_part (luma_grid width height) x y);
     cb = λ x y. sym (none_before cb_part (chroma_grid width height) x y);
     cr = λ x y. sym (none_before cr_part (chroma_grid width height) x y);
+    same_references = refl;
   }
 
   module _ (whole : AreWhole blocks) (n : ℕ) (few : n ≤ length blocks)
@@ -114,7 +114,7 @@ module _ (width height : ℕ) (blocks : List Block) where
     here = site width height n
 
     pub seen_so : (d : Decoded) → BlocksAreDecoded n d → (own : Samples) →
-        AreSeen here (neighbours_of blocks here) own 0 d
+        AreSeen here references (neighbours_of blocks here) own 0 d
     seen_so d done own = record {
       luma = seen_next luma_part (luma_grid width height) is_luma blocks whole n few columns
           (omega arith) d.luma done.luma own.luma;
@@ -122,10 +122,12 @@ module _ (width height : ℕ) (blocks : List Block) where
           (omega arith) d.cb done.cb own.cb;
       cr = seen_next cr_part (chroma_grid width height) is_cr blocks whole n few columns
           (omega arith) d.cr done.cr own.cr;
+      same_references = done.same_references;
     }
 
     pub one_block_more : (block : Block) (d e : Decoded) → slice_get blocks n ≡ Some block →
-        BlocksAreDecoded n d → AreSeen here (neighbours_of blocks here) block.samples 64 e →
+        BlocksAreDecoded n d →
+        AreSeen here references (neighbours_of blocks here) block.samples 64 e →
         KeepBeside (ctb_side * ctb_column here) (ctb_side * ctb_row here) 64 d e →
         BlocksAreDecoded (n + 1) e
     one_block_more block d e there done seen kept = record {
@@ -145,6 +147,7 @@ module _ (width height : ℕ) (blocks : List Block) where
           (λ x y out. kept.cr x y (record {
             beside = λ right across below down. out (in_chroma x y right across below down);
           }));
+      same_references = seen.same_references;
     } where
       in_chroma : (x y : ℕ) → ctb_side * ctb_column here ≤ 2 * x →
           2 * x < ctb_side * ctb_column here + 64 → ctb_side * ctb_row here ≤ 2 * y →
@@ -166,23 +169,25 @@ kept_by left top n d e r same kept = subst (λ o. KeptBeside left top n d o) sam
 abbrev pub BlocksFrom : List Block → ℕ → List Block → Type 0
 BlocksFrom blocks first rest = (i : ℕ) → slice_get rest i ≡ slice_get blocks (first + i)
 
-blocks_decode : (width height qp : ℕ) (blocks : List Block) → BlocksDecode width height qp blocks →
-    (count first : ℕ) (rest : List Block) → length rest ≡ count →
+blocks_decode : (width height qp : ℕ) (references : List Picture) (blocks : List Block) →
+    BlocksDecode width height qp references blocks → (count first : ℕ) (rest : List Block) →
+    length rest ≡ count →
     first + count ≡ length blocks → BlocksFrom blocks first rest → (d : Decoded) →
-    BlocksAreDecoded width height blocks first d →
+    BlocksAreDecoded width height references blocks first d →
     (e : Decoded) ×
-    (decoded_trees qp (sites_from count width height first) (trees_from width height first rest) d ≡
-    Some e) ×
-    BlocksAreDecoded width height blocks (length blocks) e
+    (decoded_trees qp (sites_from count width height first)
+    (moving_trees_from width height first rest) d ≡ Some e) ×
+    BlocksAreDecoded width height references blocks (length blocks) e
 unfolding decoded_trees
-blocks_decode width height qp blocks all zero first rest long total from d done =
+blocks_decode width height qp references blocks all zero first rest long total from d done =
     let last : first ≡ length blocks = omega (arith, total) in
-    (d, refl, subst (λ n. BlocksAreDecoded width height blocks n d) last done)
-blocks_decode width height qp blocks all (suc count) first [] long total from d done =
+    (d, refl, subst (λ n. BlocksAreDecoded width height references blocks n d) last done)
+blocks_decode width height qp references blocks all (suc count) first [] long total from d done =
     absurd (omega (arith, long))
-blocks_decode width height qp blocks all (suc count) first (block ∷ rest) long total from d done =
+blocks_decode width height qp references blocks all (suc count) first (block ∷ rest) long total from
+    d done =
     let here : Site = site width height first in
-    let tree : Tree = tree_of here (lists_of_plan block.plan) in
+    let tree : Tree = tree_of here (lists_with_vectors block.plan) in
     let left : ℕ = ctb_side * ctb_column here in
     let top : ℕ = ctb_side * ctb_row here in
     let number : first + 0 ≡ first = omega arith in
@@ -193,18 +198,18 @@ blocks_decode width height qp blocks all (suc count) first (block ∷ rest) long
     some_of_product (blocks_over width) (blocks_over height) first
     (omega (arith, total, all.count)) in
     let one = all.decodes first block there block.samples d
-    (seen_so width height blocks all.whole first few columns d done block.samples) in
+    (seen_so width height references blocks all.whole first few columns d done block.samples) in
     let kept = kept_by left top 64 d one.0 (decoded_tree qp greatest_size left top tree d) one.1
     (tree_beside qp greatest_size left top tree d (omega arith) (omega arith)) in
-    let more = one_block_more width height blocks all.whole first few columns block d one.0 there
-    done one.2 kept in
+    let more = one_block_more width height references blocks all.whole first few columns block d
+    one.0 there done one.2 kept in
     let next : (i : ℕ) → first + suc i ≡ first + 1 + i = λ i. omega arith in
-    let others = blocks_decode width height qp blocks all count (first + 1) rest
+    let others = blocks_decode width height qp references blocks all count (first + 1) rest
     (omega (arith, long)) (omega (arith, total))
     (λ i. from (suc i) ∙ ap (slice_get blocks) (next i)) one.0 more in (
       others.0,
       ap (option_and_then (decoded_trees qp (sites_from count width height (first + 1))
-          (trees_from width height (first + 1) rest))) one.1 ∙ others.1,
+          (moving_trees_from width height (first + 1) rest))) one.1 ∙ others.1,
       others.2,
     )
 
@@ -243,10 +248,11 @@ from_start blocks i =
     ap (slice_get blocks) same
 
 -- where all are decoded
-pub are_of_blocks : (width height : ℕ) (blocks : List Block) → AreWhole blocks →
-    length blocks ≡ blocks_over width * blocks_over height → (d : Decoded) →
-    BlocksAreDecoded width height blocks (length blocks) d → AreOfBlocks width height blocks d
-are_of_blocks width height blocks whole count d all = record {
+pub are_of_blocks : (width height : ℕ) (references : List Picture) (blocks : List Block) →
+    AreWhole blocks → length blocks ≡ blocks_over width * blocks_over height → (d : Decoded) →
+    BlocksAreDecoded width height references blocks (length blocks) d →
+    AreOfBlocks width height blocks d
+are_of_blocks width height references blocks whole count d all = record {
   luma = λ x y wide high. all.luma x y ∙
       own_sample luma_part (luma_grid width height) is_luma blocks whole x y wide high
       (omega (arith, block_below width height x y wide high, count));
@@ -271,11 +277,11 @@ are_of_blocks width height blocks whole count d all = record {
 
 pub samples_of_blocks : SamplesAreThoseOfBlocks
 unfolding sites
-samples_of_blocks width height qp blocks all =
-    let r = blocks_decode width height qp blocks all (blocks_over width * blocks_over height) 0
-    blocks all.count (omega (arith, all.count)) (from_start blocks) nothing_decoded
-    (none_decoded width height blocks) in
-    (r.0, r.1, are_of_blocks width height blocks all.whole all.count r.0 r.2)
+samples_of_blocks width height qp references blocks all =
+    let r = blocks_decode width height qp references blocks all
+    (blocks_over width * blocks_over height) 0 blocks all.count (omega (arith, all.count)) (from_start blocks) (nothing_decoded references)
+    (none_decoded width height references blocks) in
+    (r.0, r.1, are_of_blocks width height references blocks all.whole all.count r.0 r.2)
 
 -- ---- the picture
 
@@ -294,7 +300,7 @@ picture_is_of_blocks width height blocks d are =
 
 pub picture_of_its_blocks : PicturesAreTheirBlocks
 unfolding unfiltered
-picture_of_its_blocks width height qp blocks all =
-    let r = samples_of_blocks width height qp blocks all in
+picture_of_its_blocks width height qp references blocks all =
+    let r = samples_of_blocks width height qp references blocks all in
     ap (option_map (picture_of width height)) r.1 ∙
     ap Some (picture_is_of_blocks width height blocks r.0 r.2)

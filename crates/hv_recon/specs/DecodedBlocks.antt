@@ -1,5 +1,5 @@
 -- The decoded picture of coding tree blocks of the code, each of which is decoded by the edges of
--- the blocks around it alone: it is put together from their samples.
+-- the blocks around it and the reference pictures alone: it is put together from their samples.
 use Rattle.std.specs.Prelude.{◌≡◌, ℕ, ◌+◌, ◌*◌, ◌/◌, ◌%◌, ◌<◌, List, [], ◌∷◌, length, map, slice_get, slice_index_or, Some}
 use Rattle.hv_types.specs.declared.picture.Picture.{Picture}
 use Rattle.hv_types.specs.Samples.{plane_of}
@@ -10,12 +10,12 @@ use Rattle.hv_tree_model.specs.Trees.{Tree}
 use Rattle.hv_tree_model.specs.Sites.{Site, site, sites, blocks_over, ctb_side}
 use Rattle.hv_tree_model.specs.Plans.{tree_of}
 use Rattle.hv_recon_model.specs.Reconstruction.{Decoded, nothing_decoded, decoded_trees, unfiltered}
-use Rattle.hv_recon.specs.Leaves.{lists_of_plan}
+use Rattle.hv_recon.specs.Leaves.{lists_of_plan, lists_with_vectors}
 use Rattle.hv_recon.specs.DecodedNodes.{DecodesBlock}
 
 -- ---- all blocks of a picture
 
--- their coding quadtrees, from this number on
+-- their coding quadtrees as they are coded, from this number on
 abbrev pub trees_from : ℕ → ℕ → ℕ → List Block → List Tree
 trees_from width height index [] = []
 trees_from width height index (block ∷ blocks) =
@@ -25,20 +25,33 @@ trees_from width height index (block ∷ blocks) =
 abbrev pub trees_of : ℕ → ℕ → List Block → List Tree
 trees_of width height blocks = trees_from width height 0 blocks
 
--- a block at this place, by the edges of the blocks around it in the list
-abbrev pub DecodesAmong : List Block → Site → ℕ → Block → Type 0
-DecodesAmong blocks here qp block =
-    DecodesBlock block.plan here qp (neighbours_of blocks here) block.samples
+-- the same where each unit's vector stands in the place of the coded difference
+abbrev pub moving_trees_from : ℕ → ℕ → ℕ → List Block → List Tree
+moving_trees_from width height index [] = []
+moving_trees_from width height index (block ∷ blocks) =
+    tree_of (site width height index) (lists_with_vectors block.plan) ∷
+    moving_trees_from width height (index + 1) blocks
+
+abbrev pub moving_trees_of : ℕ → ℕ → List Block → List Tree
+moving_trees_of width height blocks = moving_trees_from width height 0 blocks
+
+-- a block at this place, by the edges of the blocks around it in the list and the reference
+-- pictures
+abbrev pub DecodesAmong : List Block → Site → ℕ → List Picture → Block → Type 0
+DecodesAmong blocks here qp references block =
+    DecodesBlock (lists_with_vectors block.plan) here qp references (neighbours_of blocks here)
+    block.samples
 
 -- there is one for each place of a picture of these luma sides, and each decodes so
-pub record BlocksDecode (width height qp : ℕ) (blocks : List Block) : Type 0 where
+pub record BlocksDecode
+    (width height qp : ℕ) (references : List Picture) (blocks : List Block) : Type 0 where
   pub count : length blocks ≡ blocks_over width * blocks_over height
   pub whole :
       (index : ℕ) (block : Block) → slice_get blocks index ≡ Some block →
       AreWholeSamples block.samples
   pub decodes :
       (index : ℕ) (block : Block) → slice_get blocks index ≡ Some block →
-      DecodesAmong blocks (site width height index) qp block
+      DecodesAmong blocks (site width height index) qp references block
 
 -- ---- their samples
 
@@ -83,14 +96,17 @@ picture_of_blocks width height blocks = record {
 
 abbrev pub SamplesAreThoseOfBlocks : Type 0
 SamplesAreThoseOfBlocks =
-    (width height qp : ℕ) (blocks : List Block) → BlocksDecode width height qp blocks →
+    (width height qp : ℕ) (references : List Picture) (blocks : List Block) →
+    BlocksDecode width height qp references blocks →
     (d : Decoded) ×
-    (decoded_trees qp (sites width height) (trees_of width height blocks) nothing_decoded ≡
-    Some d) ×
+    (decoded_trees qp (sites width height) (moving_trees_of width height blocks)
+    (nothing_decoded references) ≡ Some d) ×
     AreOfBlocks width height blocks d
 
 abbrev pub PicturesAreTheirBlocks : Type 0
 PicturesAreTheirBlocks =
-    (width height qp : ℕ) (blocks : List Block) → BlocksDecode width height qp blocks →
-    unfiltered width height qp (sites width height) (trees_of width height blocks) ≡
+    (width height qp : ℕ) (references : List Picture) (blocks : List Block) →
+    BlocksDecode width height qp references blocks →
+    unfiltered width height qp references (sites width height)
+    (moving_trees_of width height blocks) ≡
     Some (picture_of_blocks width height blocks)

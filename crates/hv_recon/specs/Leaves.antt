@@ -1,12 +1,16 @@
 -- Leaves of a coding tree block of the code, and what is decoded behind them, as the definitions
--- have them.
-use Rattle.std.specs.Prelude.{◌≡◌, ℕ, ◌+◌, ◌<◌, ◌≤◌, true, false, List, slice_get, Option, Some, None}
+-- have them: their lists, whose units may know their vectors.
+use Rattle.std.specs.Prelude.{◌≡◌, ℕ, ◌+◌, ◌<◌, ◌≤◌, true, false, List, [], ◌∷◌, length, map, slice_get, Option, Some, None}
+use Rattle.hv_types.specs.declared.picture.Picture.{Picture}
 use Rattle.hv_block.specs.declared.edges.Edges.{Edges}
 use Rattle.hv_block.specs.declared.edges.Neighbours.{Neighbours}
+use Rattle.hv_block.specs.declared.frame.Frame.{Frame}
 use Rattle.hv_block.specs.Plans.{CtbPlan}
 use Rattle.hv_block.specs.Samples.{Samples}
-use Rattle.hv_plan.specs.declared.prediction.Pred.TheVariants.{Intra}
+use Rattle.hv_plan.specs.declared.prediction.Pred.{Pred}
+use Rattle.hv_plan.specs.declared.prediction.Pred.TheVariants.{Intra, Inter}
 use Rattle.hv_plan.specs.declared.prediction.Unit.{Unit}
+use Rattle.hv_inter_model.specs.UnitVectors.{unit_with_vector}
 use Rattle.hv_tree_model.specs.Trees.{Tree}
 use Rattle.hv_tree_model.specs.Sites.{Site, x0, y0, squares}
 use Rattle.hv_tree_model.specs.Plans.{Plan, leaf_at}
@@ -37,39 +41,55 @@ abbrev pub cr_around : Neighbours → SamplesAround
 cr_around near = around_in (λ e. e.right_cr) (λ e. e.bottom_cr) near
 
 -- What is decoded of the picture is seen so from a block of it: by these edges of the blocks
--- around, and by these samples of the block itself, so far as they come before this address.
+-- around, and by these samples of the block itself, so far as they come before this address. And
+-- these are its reference pictures.
 pub record AreSeen
-    (place : Site) (near : Neighbours) (own : Samples) (address : ℕ) (d : Decoded) : Type 0 where
+    (place : Site) (references : List Picture) (near : Neighbours) (own : Samples) (address : ℕ)
+    (d : Decoded) : Type 0 where
   pub luma : IsSeen (luma_spot place) (luma_around near) own.luma address d.luma
   pub cb : IsSeen (chroma_spot place) (cb_around near) own.cb address d.cb
   pub cr : IsSeen (chroma_spot place) (cr_around near) own.cr address d.cr
+  pub same_references : d.references ≡ references
 
 -- ---- a leaf: a node of a coding tree block that is one coding unit
 
 abbrev pub lists_of_plan : CtbPlan → Plan
 lists_of_plan p = record { units = p.units; luma = p.luma; cb = p.cb; cr = p.cr }
 
--- its prediction and its levels
-abbrev pub leaf_of_plan : CtbPlan → ℕ → ℕ → Tree
-leaf_of_plan plan size address =
-    leaf_at (lists_of_plan plan) size address (slice_get plan.units address)
+-- where each unit's vector stands in the place of the coded difference
+abbrev pub lists_with_vectors : CtbPlan → Plan
+lists_with_vectors p =
+    record { units = map unit_with_vector p.units; luma = p.luma; cb = p.cb; cr = p.cr }
 
--- the unit that is predicted inside the picture by one of the 35 modes
-abbrev pub IsIntra : Option Unit → Type 0
-IsIntra unit =
-    (depth : ℕ) × (mode : ℕ) ×
-    (unit ≡ Some (record { depth = depth; pred = Intra mode })) × (mode ≤ 34)
+-- its prediction and its levels
+abbrev pub leaf_of_plan : Plan → ℕ → ℕ → Tree
+leaf_of_plan plan size address = leaf_at plan size address (slice_get plan.units address)
+
+-- list 0 by its two entries, the second of which isn't there without the first
+abbrev pub pictures_of : Option Frame → Option Frame → List Picture
+pictures_of None second = []
+pictures_of (Some first) None = first.shown ∷ []
+pictures_of (Some first) (Some second) = first.shown ∷ second.shown ∷ []
+
+-- a unit that is predicted by one of the 35 modes, or from an entry of list 0 that is there
+abbrev pub IsKnownPred : List Picture → Pred → Type 0
+IsKnownPred references (Intra mode) = mode ≤ 34
+IsKnownPred references (Inter reference mv flag mvd) = reference < length references
+
+abbrev pub IsKnown : List Picture → Option Unit → Type 0
+IsKnown references None = ⊥
+IsKnown references (Some unit) = IsKnownPred references unit.pred
 
 -- Whatever is decoded of the picture and is seen so before a leaf: behind the leaf, it is seen so
 -- again with the new samples.
 abbrev pub DecodesLeaf :
-    CtbPlan → ℕ → ℕ → Site → ℕ → Neighbours → Samples → Samples → Type 0
-DecodesLeaf plan size address place qp near old new =
-    (d : Decoded) → AreSeen place near old address d →
+    Plan → ℕ → ℕ → Site → ℕ → List Picture → Neighbours → Samples → Samples → Type 0
+DecodesLeaf plan size address place qp references near old new =
+    (d : Decoded) → AreSeen place references near old address d →
     (e : Decoded) ×
     (decoded_tree qp size (x0 place address) (y0 place address) (leaf_of_plan plan size address) d ≡
     Some e) ×
-    AreSeen place near new (address + squares size) e
+    AreSeen place references near new (address + squares size) e
 
 -- ---- samples that are kept
 

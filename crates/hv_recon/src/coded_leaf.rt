@@ -1,12 +1,13 @@
 //! Coding of a leaf of a coding tree block as an intra coding unit.
 
-ghost use Rattle.std.specs.Prelude.{◌≡◌, ◌+◌, ◌%◌, ◌<◌, ◌≤◌};
+ghost use Rattle.std.specs.Prelude.{◌≡◌, ◌+◌, ◌%◌, ◌<◌, ◌≤◌, List};
+ghost use Rattle.hv_types.specs.declared.picture.Picture.{Picture};
 ghost use Rattle.hv_types.specs.Video.{IsPicture};
 ghost use Rattle.hv_tree_model.specs.Trees.{side};
 ghost use Rattle.hv_tree_model.specs.Sites.{squares, x0, y0};
 ghost use Rattle.hv_recon.specs.CodedLeaves.{IsLeafCoded, IsLeafSet};
 ghost use Rattle.hv_recon.specs.CodedUnits.{AreQuartersCoded};
-ghost use Rattle.hv_recon.specs.Leaves.{DecodesLeaf, KeepsOtherSamples};
+ghost use Rattle.hv_recon.specs.Leaves.{lists_of_plan, DecodesLeaf, KeepsOtherSamples};
 
 use crate::coded_unit::code_unit;
 use crate::leaf::quarter;
@@ -24,7 +25,8 @@ use hv_types::Picture;
 /// 51. `near` are the edges of the blocks around, before the in-loop filters, and `out` has the
 /// samples of the units before it in decoding order. What `out` and the plan have of later ones
 /// isn't read, and all that comes before the leaf is kept. One of 64x64 has four transform units,
-/// each coded behind those before. It takes no memory and always answers.
+/// each coded behind those before. What is decoded of the leaf is the same whatever reference
+/// pictures there are. It takes no memory and always answers.
 pub fn code_leaf(
     plan: &mut CtbPlan,
     address: u8,
@@ -47,7 +49,9 @@ pub fn code_leaf(
     ensures coded { IsLeafCoded input.now plan.new place near.now size address mode qp out.old
         out.new }
     ensures set { IsLeafSet size address mode plan.old plan.new }
-    ensures decoded { DecodesLeaf plan.new size address place qp near.now out.old out.new }
+    ensures decoded { (references : List Picture) →
+        DecodesLeaf (lists_of_plan plan.new) size address place qp references near.now out.old
+        out.new }
     ensures kept { KeepsOtherSamples size address out.old out.new }
 {
     let squares = plan.units().len();

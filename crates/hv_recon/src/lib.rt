@@ -1,4 +1,4 @@
-//! Rebuilding of what a coding tree block shows before the in-loop filters (8.4, 8.6). No call
+//! Rebuilding of what a coding tree block shows before the in-loop filters (8.4 to 8.6). No call
 //! takes memory, and each equals its definition.
 #![tactic(auto)]
 
@@ -6,6 +6,7 @@ mod around;
 mod coded_block;
 mod coded_leaf;
 mod coded_unit;
+mod inter_unit;
 mod leaf;
 mod node_laws;
 mod picture_laws;

@@ -1,11 +1,14 @@
 //! Leaves of a few blocks, worked by hand.
-ghost use Rattle.std.specs.Prelude.{◌≡◌, ◌+◌, ◌%◌, ◌^◌, ◌<◌, ◌≤◌};
+ghost use Rattle.std.specs.Prelude.{◌≡◌, ◌+◌, ◌%◌, ◌^◌, ◌<◌, ◌≤◌, IfOk};
+ghost use Rattle.hv_types.specs.Samples.{filled_plane};
 ghost use Rattle.hv_tree_model.specs.Trees.{side};
 ghost use Rattle.hv_tree_model.specs.Sites.{squares, x0, y0};
 
 use super::*;
-use hv_block::{Block, Edges, Neighbours};
-use hv_plan::{Place, Pred, Unit};
+use hv_block::{Block, Edges, Frame, Neighbours};
+use hv_plan::{Mv, Place, Pred, Unit};
+use hv_types::{NoMemory, Picture, Plane};
+use std::alloc::Global;
 use std::test::Fail;
 
 const NONE: Neighbours = Neighbours {
@@ -65,6 +68,74 @@ fn rebuild(block: &mut Block, place: Place, node: (u8, u8), mode: u8, near: &Nei
                 place,
                 40,
                 near,
+                None,
+                None,
+                &mut block.samples,
+            );
+            return true;
+        }
+    }
+    false
+}
+
+/// A frame of 128x128 luma samples that shows these samples in each component.
+fn frame(alloc: Global, luma: u8, cb: u8, cr: u8) -> Result<Frame, NoMemory>
+    ensures { IfOk result (λ frame. frame.shown.luma ≡ filled_plane 128 128 luma) }
+{
+    let shown = Picture {
+        luma: Plane::new(alloc, 128, 128, luma)?,
+        cb: Plane::new(alloc, 64, 64, cb)?,
+        cr: Plane::new(alloc, 64, 64, cr)?,
+    };
+    let working = Picture {
+        luma: Plane::new(alloc, 128, 128, 0)?,
+        cb: Plane::new(alloc, 64, 64, 0)?,
+        cr: Plane::new(alloc, 64, 64, 0)?,
+    };
+    Ok(Frame {
+        shown,
+        working,
+        sao: Vec::new(alloc),
+    })
+}
+
+/// Makes a node one unit of this entry of list 0 and this vector, and rebuilds it at the quantiser
+/// 40. Tells whether it did.
+fn move_unit(
+    block: &mut Block,
+    place: Place,
+    node: (u8, u8),
+    reference: u8,
+    mv: Mv,
+    frames: (&Frame, &Frame),
+) -> bool
+    requires size { node.1 ≤ 3 }
+    requires address { node.0 < 64 }
+    requires fits { node.0 + 4 ^ node.1 ≤ 64 }
+    requires node { node.0 % squares node.1 ≡ 0 }
+    requires right { x0 place node.0 + side node.1 ≤ place.width }
+    requires bottom { y0 place node.0 + side node.1 ≤ place.height }
+{
+    let (address, size) = node;
+    let mvd = Mv { x: 0, y: 0 };
+    let pred = Pred::Inter {
+        reference,
+        mv,
+        flag: 0,
+        mvd,
+    };
+    block.plan.set_leaf(address, size, pred);
+    if let Pred::Inter { reference, .. } = block.plan.units()[usize::from(address)].pred {
+        if reference < 2 {
+            rebuild_leaf(
+                &block.plan,
+                address,
+                size,
+                place,
+                40,
+                &NONE,
+                Some(frames.0),
+                Some(frames.1),
                 &mut block.samples,
             );
             return true;
@@ -225,5 +296,50 @@ fn levels_at_40(rt: HostRuntime) -> Result<(), Fail> {
         &block.samples.cr()[32 * 3..32 * 3 + 5],
         &[118, 118, 118, 118, 0][..]
     );
+    Ok(())
+}
+
+/// A unit of 8x8 in the last block, from the second frame: 12 samples at its right, and 1 below.
+/// Its levels are added as to intra units.
+#[test]
+#[tactic(auto, unfolding(hv_tree_model::specs::Sites::column_of, hv_tree_model::specs::Sites::row_of))]
+fn unit_from_second_frame(rt: HostRuntime) -> Result<(), Fail> {
+    let mut block = Block::new(rt.alloc())?;
+    let first = frame(rt.alloc(), 10, 20, 30)?;
+    let mut second = frame(rt.alloc(), 100, 110, 120)?;
+    second.shown.luma.set(84, 73, 7);
+    let mv = Mv { x: 48, y: 4 };
+    block.plan.cb_mut()[48] = 1;
+    assert!(rt; move_unit(&mut block, place(3), (3, 0), 1, mv, (&first, &second)));
+    let (luma, cb, cr) = (block.samples.luma(), block.samples.cb(), block.samples.cr());
+    assert_eq!(rt; &luma[64 * 8 + 7..64 * 8 + 11], &[0, 7, 100, 100][..]);
+    assert_eq!(rt; (luma[64 * 15 + 15], luma[64 * 16 + 15]), (100, 0));
+    assert_eq!(rt;
+        &cb[32 * 4 + 3..32 * 4 + 9],
+        &[0, 120, 120, 120, 120, 0][..]
+    );
+    assert_eq!(rt;
+        &cr[32 * 7 + 3..32 * 7 + 9],
+        &[0, 120, 120, 120, 120, 0][..]
+    );
+    Ok(())
+}
+
+/// A unit of 64x64 from far outside the first frame, below its lower left corner.
+#[test]
+#[tactic(auto, unfolding(hv_tree_model::specs::Sites::column_of, hv_tree_model::specs::Sites::row_of))]
+fn unit_from_outside(rt: HostRuntime) -> Result<(), Fail> {
+    let mut block = Block::new(rt.alloc())?;
+    let mut first = frame(rt.alloc(), 10, 20, 30)?;
+    let second = frame(rt.alloc(), 100, 110, 120)?;
+    first.shown.luma.set(0, 127, 33);
+    let mv = Mv {
+        x: -32768,
+        y: 32767,
+    };
+    assert!(rt; move_unit(&mut block, place(1), (0, 3), 0, mv, (&first, &second)));
+    assert_eq!(rt; block.samples.luma(), &[33; 4096][..]);
+    assert_eq!(rt; block.samples.cb(), &[20; 1024][..]);
+    assert_eq!(rt; block.samples.cr(), &[30; 1024][..]);
     Ok(())
 }

@@ -65,7 +65,7 @@ fn is_coded(levels: &[i16]) -> bool
 
 /// Adds the residual of these levels to the samples of a block; where all are 0 it is 0, and the
 /// samples are kept.
-fn add_levels(levels: &[i16], log2: u8, qp: u8, out: &mut [u8])
+pub fn add_levels(levels: &[i16], log2: u8, qp: u8, out: &mut [u8])
     requires least { 2 ≤ log2 }
     requires most { log2 ≤ 5 }
     requires quantiser { qp ≤ 51 }

@@ -1,11 +1,12 @@
-use Rattle.std.proofs.Common.{◌≡◌, ◌+◌, ◌-◌, ◌*◌, ◌%◌, ◌≤◌, take, length, refl, sym, ap, subst, ◌∙◌, arith}
+use Rattle.std.proofs.Common.{◌≡◌, ◌+◌, ◌-◌, ◌*◌, ◌%◌, ◌≤◌, List, take, length, refl, sym, ap, subst, ◌∙◌, arith}
 use Rattle.std.specs.Prelude.{slice_get}
+use Rattle.hv_types.specs.declared.picture.Picture.{Picture}
 use Rattle.hv_tree_model.specs.Trees.{side}
 use Rattle.hv_tree_model.specs.Sites.{squares, x0, y0}
-use Rattle.hv_recon.specs.Leaves.{DecodesLeaf, KeepsOtherSamples}
+use Rattle.hv_recon.specs.Leaves.{lists_of_plan, DecodesLeaf, KeepsOtherSamples}
 use Rattle.hv_recon.proofs.UnitLemmas.{UnitInPicture}
-use Rattle.hv_recon.proofs.LeafLemmas.{intra_unit, small_leaf, unit_keeps}
-use Rattle.hv_recon.proofs.GreatLeafLemmas.{great_leaf, quarters_keep}
+use Rattle.hv_recon.proofs.LeafLemmas.{intra_unit, unit_keeps}
+use Rattle.hv_recon.proofs.GreatLeafLemmas.{small_intra_leaf, great_intra_leaf, intra_quarters_keep}
 use Rattle.hv_recon.proofs.CodedLeafLemmas.{node_fits, leaf_unit, quarters_put}
 use Rattle.hv_recon.proofs.coded_leaf.code_leaf.Goals as goal
 
@@ -35,13 +36,13 @@ returns-then-size-lt3 c =
         cb = kept.cb ∙ ap (λ p. take (16 * c.args.address) p.cb) c.set_leaf.ensures;
         cr = kept.cr ∙ ap (λ p. take (16 * c.args.address) p.cr) c.set_leaf.ensures;
       };
-      decoded = small_leaf c.code_unit.new.plan c.args.place c.args.near.now c.args.size
+      decoded = λ references.
+          small_intra_leaf c.code_unit.new.plan c.args.place references c.args.near.now c.args.size
           c.args.address (3 - c.args.size) c.args.mode c.args.qp c.args.out.now c.code_unit.new.out few
           c.requires.address c.requires.node
           (record { across = c.requires.right; down = c.requires.bottom }) unit coded.put;
-      kept = unit_keeps c.code_unit.new.plan c.args.place c.args.near.now c.args.size c.args.address
-          c.args.mode c.args.qp c.args.out.now c.code_unit.new.out few c.requires.address
-          c.requires.node coded.put;
+      kept = unit_keeps _ _ _ c.args.size c.args.address c.args.out.now c.code_unit.new.out few
+          c.requires.address c.requires.node coded.put;
     }
 
 pub code_quarters-requires-clause-right : goal.code_quarters-requires-clause-right
@@ -80,14 +81,17 @@ returns-else-size-lt3 c =
     let put =
     quarters_put c.args.input.now c.code_quarters.new.plan c.args.place c.args.near.now c.args.mode
     c.args.qp c.args.out.now c.code_quarters.new.out coded in
-    let great =
-    great_leaf c.code_quarters.new.plan c.args.place c.args.near.now c.args.mode c.args.qp _
-    c.args.out.now c.code_quarters.new.out
+    let great : (references : List Picture) →
+    DecodesLeaf (lists_of_plan c.code_quarters.new.plan) 3 0 c.args.place c.args.qp references
+    c.args.near.now c.args.out.now c.code_quarters.new.out =
+    λ references.
+    great_intra_leaf c.code_quarters.new.plan c.args.place references c.args.near.now _ c.args.mode
+    c.args.qp c.args.out.now c.code_quarters.new.out
     (subst (λ n. UnitInPicture c.args.place n 0) (sym three)
     (subst (λ a. UnitInPicture c.args.place c.args.size a) (sym first) inside))
     (ap (slice_get c.code_quarters.new.plan.units) first ∙ unit) put in
     let keep =
-    quarters_keep c.code_quarters.new.plan c.args.place c.args.near.now c.args.mode c.args.qp
+    intra_quarters_keep c.code_quarters.new.plan c.args.place c.args.near.now c.args.mode c.args.qp
     c.args.out.now c.code_quarters.new.out put in
     record {
       coded = record {
@@ -103,10 +107,13 @@ returns-else-size-lt3 c =
         cr = subst (λ a. take (16 * a) c.code_quarters.new.plan.cr ≡
             take (16 * a) c.args.plan.now.cr) first refl;
       };
-      decoded = subst (λ n. DecodesLeaf c.code_quarters.new.plan n c.args.address c.args.place
-          c.args.qp c.args.near.now c.args.out.now c.code_quarters.new.out) three
-          (subst (λ a. DecodesLeaf c.code_quarters.new.plan 3 a c.args.place c.args.qp
-          c.args.near.now c.args.out.now c.code_quarters.new.out) first great);
+      decoded = λ references.
+          subst (λ n. DecodesLeaf (lists_of_plan c.code_quarters.new.plan) n c.args.address
+          c.args.place c.args.qp references c.args.near.now c.args.out.now
+          c.code_quarters.new.out) three
+          (subst (λ a. DecodesLeaf (lists_of_plan c.code_quarters.new.plan) 3 a c.args.place
+          c.args.qp references c.args.near.now c.args.out.now c.code_quarters.new.out) first
+          (great references));
       kept = subst (λ n. KeepsOtherSamples n c.args.address c.args.out.now c.code_quarters.new.out)
           three
           (subst (λ a. KeepsOtherSamples 3 a c.args.out.now c.code_quarters.new.out) first keep);

@@ -1,70 +1,70 @@
-use Rattle.std.proofs.Common.{◌≡◌, ◌%◌, ap, sym, subst, ◌∙◌, arith}
-use Rattle.std.specs.Prelude.{slice_get}
-use Rattle.hv_tree_model.specs.Sites.{squares}
-use Rattle.hv_recon.specs.Leaves.{DecodesLeaf, KeepsOtherSamples}
-use Rattle.hv_recon.proofs.UnitLemmas.{UnitInPicture}
-use Rattle.hv_recon.proofs.LeafLemmas.{small_leaf, unit_keeps, unit_there, pred_there}
-use Rattle.hv_recon.proofs.GreatLeafLemmas.{great_leaf, quarters_keep}
+use Rattle.std.proofs.Common.{◌<◌, List, length, sym, ap, subst, ◌∙◌, arith}
+use Rattle.std.specs.Prelude.{slice_get, is_some}
+use Rattle.std.specs.Option.{option_copied}
+use Rattle.std.proofs.lemmas.Bool.{true≢false}
+use Rattle.hv_lemmas.proofs.ListLemmas.{there_is}
+use Rattle.hv_plan.specs.declared.prediction.Pred.TheVariants.{Intra, Inter}
+use Rattle.hv_types.specs.declared.picture.Picture.{Picture}
+use Rattle.hv_recon.specs.Leaves.{pictures_of, IsKnown}
+use Rattle.hv_recon.proofs.LeafLemmas.{unit_there}
+use Rattle.hv_recon.proofs.RebuiltLeafLemmas.{intra_leaf_decodes, intra_leaf_keeps, inter_leaf_decodes, inter_leaf_keeps}
 use Rattle.hv_recon.proofs.leaf.rebuild_leaf.Goals as goal
 
-pub returns-then-size-lt3-clause-decoded : goal.returns-then-size-lt3-clause-decoded
-returns-then-size-lt3-clause-decoded c =
+pub returns-in-Intra-clause-decoded : goal.returns-in-Intra-clause-decoded
+returns-in-Intra-clause-decoded c =
     let there =
-    unit_there c.units.result.now c.from.result c.in-Intra.mode _
+    unit_there c.units.result.now c.from.result (Intra c.in-Intra.mode) _
     (omega (arith, c.units.ensures.count, c.from.ensures, c.requires.address)) c.in-Intra.is in
-    small_leaf c.args.plan.now c.args.place c.args.near.now c.args.size c.args.address _
-    c.in-Intra.mode c.args.qp c.args.out.now c.rebuild_unit.new.out (omega arith)
-    c.requires.address c.requires.node
+    intra_leaf_decodes c.args.plan.now c.args.place
+    (pictures_of (option_copied c.args.first) (option_copied c.args.second)) c.args.near.now
+    c.args.size c.args.address c.args.qp c.args.out.now c.rebuild_intra_leaf.new.out
+    c.requires.size c.requires.address c.requires.node c.in-Intra.mode
+    c.rebuild_intra_leaf.ensures.one c.rebuild_intra_leaf.ensures.four _
     (record { across = c.requires.right; down = c.requires.bottom })
     (sym (λ i. slice_get (c.units.ensures.value i) (c.from.ensures i)) ∙ there)
-    c.rebuild_unit.ensures
 
-pub returns-then-size-lt3-clause-kept : goal.returns-then-size-lt3-clause-kept
-returns-then-size-lt3-clause-kept c =
-    unit_keeps c.args.plan.now c.args.place c.args.near.now c.args.size c.args.address
-    c.in-Intra.mode c.args.qp c.args.out.now c.rebuild_unit.new.out (omega arith)
-    c.requires.address c.requires.node c.rebuild_unit.ensures
+pub returns-in-Intra-clause-kept : goal.returns-in-Intra-clause-kept
+returns-in-Intra-clause-kept c =
+    intra_leaf_keeps c.args.plan.now c.args.place
+    (pictures_of (option_copied c.args.first) (option_copied c.args.second)) c.args.near.now
+    c.args.size c.args.address c.args.qp c.args.out.now c.rebuild_intra_leaf.new.out
+    c.requires.size c.requires.address c.requires.node c.in-Intra.mode
+    c.rebuild_intra_leaf.ensures.one c.rebuild_intra_leaf.ensures.four
 
-pub returns-else-size-lt3-clause-decoded : goal.returns-else-size-lt3-clause-decoded
-returns-else-size-lt3-clause-decoded c =
-    let three : 3 ≡ c.args.size = omega (arith, c.if-size-lt3.false, c.requires.size) in
-    let node : c.args.address % 64 ≡ 0 =
-    subst (λ n. c.args.address % squares n ≡ 0) (sym three) c.requires.node in
-    let first : 0 ≡ c.args.address = omega (arith, node, c.requires.address) in
+pub returns-in-Some-clause-decoded : goal.returns-in-Some-clause-decoded
+returns-in-Some-clause-decoded c =
     let there =
-    unit_there c.units.result.now c.from.result c.in-Intra.mode _
-    (omega (arith, c.units.ensures.count, c.from.ensures, c.requires.address)) c.in-Intra.is in
-    let unit = sym (λ i. slice_get (c.units.ensures.value i) (c.from.ensures i)) ∙ there in
-    let inside : UnitInPicture c.args.place c.args.size c.args.address =
-    record { across = c.requires.right; down = c.requires.bottom } in
-    let great =
-    great_leaf c.args.plan.now c.args.place c.args.near.now c.in-Intra.mode c.args.qp _
-    c.args.out.now c.rebuild_quarters.new.out
-    (subst (λ n. UnitInPicture c.args.place n 0) (sym three)
-    (subst (λ a. UnitInPicture c.args.place c.args.size a) (sym first) inside))
-    (ap (slice_get c.args.plan.now.units) first ∙ unit) c.rebuild_quarters.ensures in
-    subst (λ n. DecodesLeaf c.args.plan.now n c.args.address c.args.place c.args.qp
-    c.args.near.now c.args.out.now c.rebuild_quarters.new.out) three
-    (subst (λ a. DecodesLeaf c.args.plan.now 3 a c.args.place c.args.qp
-    c.args.near.now c.args.out.now c.rebuild_quarters.new.out) first great)
+    unit_there c.units.result.now c.from.result
+    (Inter c.in-Inter.reference c.in-Inter.mv c.in-Inter.flag c.in-Inter.mvd) _
+    (omega (arith, c.units.ensures.count, c.from.ensures, c.requires.address)) c.in-Inter.is in
+    inter_leaf_decodes c.args.plan.now c.args.place
+    (pictures_of (option_copied c.args.first) (option_copied c.args.second)) c.args.near.now
+    c.args.size c.args.address c.args.qp c.args.out.now c.rebuild_inter_leaf.new.out
+    c.requires.size c.requires.address c.requires.node c.in-Some.picture.now c.in-Inter.mv
+    c.rebuild_inter_leaf.ensures.one c.rebuild_inter_leaf.ensures.four _ c.in-Inter.reference
+    c.in-Inter.flag c.in-Inter.mvd (sym c.entry.ensures ∙ ap option_copied c.in-Some.is)
+    (record { across = c.requires.right; down = c.requires.bottom })
+    (sym (λ i. slice_get (c.units.ensures.value i) (c.from.ensures i)) ∙ there)
 
-pub returns-else-size-lt3-clause-kept : goal.returns-else-size-lt3-clause-kept
-returns-else-size-lt3-clause-kept c =
-    let three : 3 ≡ c.args.size = omega (arith, c.if-size-lt3.false, c.requires.size) in
-    let node : c.args.address % 64 ≡ 0 =
-    subst (λ n. c.args.address % squares n ≡ 0) (sym three) c.requires.node in
-    let first : 0 ≡ c.args.address = omega (arith, node, c.requires.address) in
-    let great =
-    quarters_keep c.args.plan.now c.args.place c.args.near.now c.in-Intra.mode c.args.qp
-    c.args.out.now c.rebuild_quarters.new.out c.rebuild_quarters.ensures in
-    subst (λ n. KeepsOtherSamples n c.args.address c.args.out.now c.rebuild_quarters.new.out) three
-    (subst (λ a. KeepsOtherSamples 3 a c.args.out.now c.rebuild_quarters.new.out) first great)
+pub returns-in-Some-clause-kept : goal.returns-in-Some-clause-kept
+returns-in-Some-clause-kept c =
+    inter_leaf_keeps c.args.plan.now c.args.place
+    (pictures_of (option_copied c.args.first) (option_copied c.args.second)) c.args.near.now
+    c.args.size c.args.address c.args.qp c.args.out.now c.rebuild_inter_leaf.new.out
+    c.requires.size c.requires.address c.requires.node c.in-Some.picture.now c.in-Inter.mv
+    c.rebuild_inter_leaf.ensures.one c.rebuild_inter_leaf.ensures.four
 
 pub returns-in_default-clause-decoded : goal.returns-in_default-clause-decoded
 returns-in_default-clause-decoded c =
-    let intra = c.requires.intra in
-    let there = (λ i. slice_get (c.units.ensures.value i) (c.from.ensures i)) ∙ intra.2 in
-    let pred =
-    pred_there c.units.result.now c.from.result intra.0 intra.1 _
-    (omega (arith, c.units.ensures.count, c.from.ensures, c.requires.address)) there in
-    absurd (c.in_default.not-Intra intra.1 pred)
+    let references : List Picture =
+    pictures_of (option_copied c.args.first) (option_copied c.args.second) in
+    let there =
+    unit_there c.units.result.now c.from.result
+    (Inter c.in-Inter.reference c.in-Inter.mv c.in-Inter.flag c.in-Inter.mvd) _
+    (omega (arith, c.units.ensures.count, c.from.ensures, c.requires.address)) c.in-Inter.is in
+    let known : c.in-Inter.reference < length references =
+    subst (IsKnown references)
+    (sym (λ i. slice_get (c.units.ensures.value i) (c.from.ensures i)) ∙ there) c.requires.known in
+    let picture = there_is references c.in-Inter.reference known in
+    absurd (true≢false (sym (ap is_some
+    (sym (ap option_copied c.in_default.is) ∙ c.entry.ensures ∙ picture.1))))

@@ -51,7 +51,7 @@ module _ (prediction : Prediction) (plan : Plan) (place : Site) (references : Li
   abbrev unit_at : ℕ → TransformUnit
   unit_at address = transform_unit_at plan 5 address
 
-  quarter_behind : (address : ℕ) (old new : Samples) (x y : ℕ) (d : Decoded) → address < 64 →
+  pub quarter_behind : (address : ℕ) (old new : Samples) (x y : ℕ) (d : Decoded) → address < 64 →
       address % 16 ≡ 0 → UnitInPicture place 2 address → x ≡ x0 place address →
       y ≡ y0 place address → IsOnePut address old new →
       AreSeen place references near old address d →

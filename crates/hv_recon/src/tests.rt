@@ -343,3 +343,83 @@ fn unit_from_outside(rt: HostRuntime) -> Result<(), Fail> {
     assert_eq!(rt; block.samples.cr(), &[30; 1024][..]);
     Ok(())
 }
+
+/// Samples of a leaf of 8x8 by its mode, 0 to 34: of luma in the columns and rows (0, 0), (7, 0),
+/// (0, 7), (7, 7) and (3, 5), and of Cb in (0, 0), (3, 0), (0, 3), (3, 3) and (1, 2). They were
+/// computed from the text of H.265 by another program.
+#[rattlefmt::skip]
+const MODES: [([u8; 5], [u8; 5]); 35] = [
+    ([101, 154, 41, 97, 82], [84, 109, 54, 81, 73]),
+    ([104, 118, 84, 102, 102], [84, 84, 84, 84, 84]),
+    ([13, 34, 34, 55, 37], [27, 48, 48, 69, 48]),
+    ([12, 30, 33, 51, 35], [26, 43, 47, 64, 45]),
+    ([12, 26, 33, 47, 33], [25, 38, 46, 59, 43]),
+    ([12, 23, 33, 44, 31], [24, 35, 45, 56, 41]),
+    ([11, 20, 32, 41, 30], [23, 31, 44, 52, 40]),
+    ([11, 17, 32, 38, 28], [22, 28, 43, 49, 38]),
+    ([10, 14, 31, 35, 27], [21, 24, 42, 45, 36]),
+    ([10, 12, 31, 33, 26], [20, 22, 41, 43, 35]),
+    ([65, 47, 31, 31, 25], [20, 20, 41, 41, 34]),
+    ([15, 50, 31, 30, 24], [23, 30, 41, 39, 33]),
+    ([23, 111, 31, 27, 23], [26, 45, 40, 37, 32]),
+    ([33, 181, 30, 24, 22], [31, 68, 39, 33, 30]),
+    ([43, 178, 30, 21, 20], [36, 111, 38, 30, 28]),
+    ([53, 173, 29, 18, 19], [41, 139, 37, 26, 27]),
+    ([63, 173, 29, 15, 17], [46, 135, 36, 23, 25]),
+    ([75, 173, 29, 12, 15], [53, 137, 35, 30, 23]),
+    ([98, 170, 28, 98, 13], [60, 132, 34, 60, 20]),
+    ([111, 169, 27, 198, 20], [77, 130, 31, 128, 43]),
+    ([128, 168, 27, 191, 97], [91, 129, 31, 147, 63]),
+    ([142, 168, 27, 186, 179], [102, 128, 29, 142, 97]),
+    ([155, 167, 24, 181, 197], [113, 127, 39, 138, 130]),
+    ([169, 166, 21, 176, 193], [125, 126, 58, 133, 149]),
+    ([183, 166, 74, 171, 190], [136, 124, 94, 129, 145]),
+    ([193, 165, 145, 168, 187], [144, 124, 128, 125, 143]),
+    ([160, 165, 170, 165, 185], [150, 123, 150, 123, 141]),
+    ([200, 165, 198, 163, 183], [149, 122, 148, 121, 139]),
+    ([199, 164, 194, 159, 180], [149, 122, 144, 117, 137]),
+    ([199, 164, 189, 154, 177], [147, 120, 140, 113, 133]),
+    ([198, 163, 184, 149, 173], [146, 119, 135, 108, 130]),
+    ([197, 162, 179, 144, 169], [145, 118, 131, 104, 127]),
+    ([197, 162, 174, 139, 165], [144, 117, 126, 99, 123]),
+    ([196, 161, 168, 133, 161], [143, 116, 121, 94, 119]),
+    ([195, 160, 160, 125, 155], [141, 114, 114, 87, 114]),
+];
+
+/// Edges whose samples rise downwards at the left, and fall to the right above.
+fn slopes() -> Neighbours {
+    let mut left = edges(0, 0, 0);
+    let mut above = edges(0, 0, 0);
+    for i in 0..16u8 {
+        left.right_luma[usize::from(i)] = 10 + 3 * i;
+        above.bottom_luma[usize::from(i)] = 200 - 5 * i;
+    }
+    for i in 0..8u8 {
+        left.right_cb[usize::from(i)] = 20 + 7 * i;
+        above.bottom_cb[usize::from(i)] = 150 - 9 * i;
+    }
+    Neighbours {
+        left: Some(left),
+        above_left: Some(edges(90, 60, 60)),
+        above: Some(above),
+        above_right: None,
+    }
+}
+
+/// Each mode, in luma and in chroma, with all neighbours there.
+#[test]
+#[tactic(auto, unfolding(hv_tree_model::specs::Sites::column_of, hv_tree_model::specs::Sites::row_of))]
+fn each_mode(rt: HostRuntime) -> Result<(), Fail> {
+    let near = slopes();
+    for mode in 0..35u8 {
+        let mut block = Block::new(rt.alloc())?;
+        assert!(rt; rebuild(&mut block, place(3), (0, 0), mode, &near));
+        let (luma, cb) = (block.samples.luma(), block.samples.cb());
+        let (known_luma, known_cb) = MODES[usize::from(mode)];
+        let of_luma = [luma[0], luma[7], luma[64 * 7], luma[64 * 7 + 7], luma[64 * 5 + 3]];
+        let of_cb = [cb[0], cb[3], cb[32 * 3], cb[32 * 3 + 3], cb[32 * 2 + 1]];
+        assert_eq!(rt; (mode, of_luma), (mode, known_luma));
+        assert_eq!(rt; (mode, of_cb), (mode, known_cb));
+    }
+    Ok(())
+}

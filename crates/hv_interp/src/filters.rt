@@ -78,7 +78,8 @@ fn rounded(sum: i32) -> u8
 
 /// Filters a block of `size` columns and rows: along rows where the `step` is 1, and down columns
 /// where it is the stride.
-pub(crate) fn filter<const T: usize>(
+#[inline(always)]
+fn filter<const T: usize>(
     taps: &[i8; T],
     samples: &[u8],
     stride: usize,
@@ -107,6 +108,50 @@ pub(crate) fn filter<const T: usize>(
             out[y * size + x] = rounded(sum_of_samples(&weights, samples, y * stride + x, step));
         }
     }
+}
+
+/// Filters a block of `size` columns and rows along rows.
+///
+/// It isn't inlined, and has a function of its own since the compiler then knows the step.
+#[inline(never)]
+pub(crate) fn filter_rows<const T: usize>(
+    taps: &[i8; T],
+    samples: &[u8],
+    stride: usize,
+    size: usize,
+    out: &mut [u8],
+)
+    requires some { 0 < T }
+    requires most { T ≤ 8 }
+    requires light { weight_of taps.now ≤ 112 }
+    requires stride { stride < 2 ^ 32 }
+    requires size { size ≤ 64 }
+    requires inside { HoldsTaps samples.now stride 1 T size size }
+    requires room { length out.old ≡ size * size }
+    ensures { HasFirst 0 (size * size) (filtered taps.now samples.now stride 1 size) out.new }
+{
+    filter(taps, samples, stride, 1, size, out);
+}
+
+/// Filters a block of `size` columns and rows down its columns.
+#[inline(never)]
+pub(crate) fn filter_columns<const T: usize>(
+    taps: &[i8; T],
+    samples: &[u8],
+    stride: usize,
+    size: usize,
+    out: &mut [u8],
+)
+    requires some { 0 < T }
+    requires most { T ≤ 8 }
+    requires light { weight_of taps.now ≤ 112 }
+    requires stride { stride < 2 ^ 32 }
+    requires size { size ≤ 64 }
+    requires inside { HoldsTaps samples.now stride stride T size size }
+    requires room { length out.old ≡ size * size }
+    ensures { HasFirst 0 (size * size) (filtered taps.now samples.now stride stride size) out.new }
+{
+    filter(taps, samples, stride, stride, size, out);
 }
 
 /// Sums along rows: so many of `size`, one behind the other.

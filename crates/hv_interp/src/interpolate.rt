@@ -4,7 +4,7 @@ ghost use Rattle.hv_types.specs.Windows.{HoldsBlock};
 ghost use Rattle.hv_interp.specs.Windows.{sample_of};
 ghost use Rattle.hv_interp.specs.Filters.{HasFirst, filtered_twice, predicted, weight_of};
 
-use crate::filters::{copy_block, filter, filter_sums, sum_rows};
+use crate::filters::{copy_block, filter_columns, filter_rows, filter_sums, sum_rows};
 
 /// Filters a block of `size` columns and rows along rows and then down columns, with room for the
 /// sums between.
@@ -101,10 +101,10 @@ pub(crate) fn interpolate<const T: usize>(
         if below == 0 {
             copy_block(&samples[before * stride + before..], stride, size, out);
         } else {
-            filter(down, &samples[before..], stride, stride, size, out);
+            filter_columns(down, &samples[before..], stride, size, out);
         }
     } else if below == 0 {
-        filter(across, &samples[before * stride..], stride, 1, size, out);
+        filter_rows(across, &samples[before * stride..], stride, size, out);
     } else {
         filter_twice(across, down, samples, stride, size, out);
     }

@@ -1,7 +1,7 @@
 -- A node that becomes one coding unit of mode DC without a level: its units name it, and it decodes
 -- as the leaf that is chosen (8.4.4.1).
 use Rattle.std.proofs.Common.{◌≡◌, ℕ, zero, suc, ◌+◌, ◌-◌, ◌*◌, ◌^◌, ◌<◌, ◌≤◌, true, false, List, [], ◌∷◌, ◌++◌, replicate, length, take, drop, drop-drop, refl, sym, ap, ap₂, ◌∙◌, subst, arith, ℤ, pos}
-use Rattle.std.specs.Prelude.{slice_get, Some}
+use Rattle.std.specs.Prelude.{slice_get, Some, option_map}
 use Rattle.std.proofs.Math.Nat.{pow-suc}
 use Rattle.std.proofs.lemmas.Bool.Decides.{nat_tests}
 use Rattle.hv_block.specs.declared.block.Block.{Block}
@@ -12,7 +12,7 @@ use Rattle.hv_tree_model.specs.Trees.{Leaf, Intra, side, depth_of, log2TrafoSize
 use Rattle.hv_tree_model.specs.Sites.{Site, x0, y0, squares, is_outside}
 use Rattle.hv_tree_model.specs.MostProbableModes.{dc}
 use Rattle.hv_tree_model.specs.Plans.{part, square_or_none, transform_unit_at, transform_units_at, leaf_at}
-use Rattle.hv_recon.specs.Leaves.{IsIntra, DecodesLeaf, KeepsOtherSamples}
+use Rattle.hv_recon.specs.Leaves.{DecodesLeaf, KeepsOtherSamples, IsKnown, leaf_of_plan, lists_with_vectors}
 use Rattle.hv_recon.specs.DecodedNodes.{node_of_plan, is_whole, IsNodeOfBlock}
 use Rattle.hv_recon.proofs.NodeLemmas.{leaf_node, leaf_as_node}
 use Rattle.hv_syntax.specs.Blocks.{ends}
@@ -25,6 +25,9 @@ use Rattle.hv_mode.proofs.CopyLemmas.{node_fits, squares_of_size, front_stays, b
 use Rattle.hv_mode.proofs.NodeFrameLemmas.{decides_by}
 use Rattle.hv_tree_model.proofs.NodeLemmas.{squares_above_0}
 use Rattle.hv_mode.proofs.BestLemmas.{begins_inside}
+use Rattle.std.proofs.lemmas.Option.{slice_get-map}
+use Rattle.hv_inter_model.specs.UnitVectors.{unit_with_vector}
+use Rattle.hv_recon_model.specs.Reconstruction.{decoded_tree}
 
 -- ---- parts of a list that are all the same
 
@@ -205,7 +208,7 @@ blank_tree : (place : Site) (size address : ℕ) (old : CtbPlan) → IsNodeOfBlo
     node_of_plan place (blank_plan size address old) size address ≡
     Leaf (Intra dc) (no_units size)
 blank_tree place size address old node whole inside =
-    leaf_node (blank_plan size address old) size address place inside
+    leaf_node (lists_of_plan (blank_plan size address old)) size address place inside
     (blank_whole size address old node whole) ∙
     ap (leaf_at (lists_of_plan (blank_plan size address old)) size address)
     (unit_there size address old node whole) ∙
@@ -234,34 +237,58 @@ some_power : (size : ℕ) → 1 ≤ 2 ^ size
 some_power zero = omega arith
 some_power (suc size) = let h = some_power size in omega (arith, h, pow-suc 2 size)
 
-pub blank_intra : (size address : ℕ) (old plan : CtbPlan) → IsNodeOfBlock size address →
+-- the unit is there
+blank_there : (size address : ℕ) (old plan : CtbPlan) → IsNodeOfBlock size address →
     IsWholePlan old → plan ≡ blank_plan size address old →
-    IsIntra (slice_get plan.units address)
-blank_intra size address old plan node whole is = (
-  depth_of size,
-  dc,
-  ap (λ p. slice_get p.units address) is ∙
-      unit_there size address old node whole,
-  omega arith,
-)
+    slice_get plan.units address ≡ Some (record { depth = depth_of size; pred = IntraPred dc })
+blank_there size address old plan node whole is =
+    ap (λ p. slice_get p.units address) is ∙ unit_there size address old node whole
+
+pub blank_known : (size address : ℕ) (old plan : CtbPlan) → IsNodeOfBlock size address →
+    IsWholePlan old → plan ≡ blank_plan size address old →
+    IsKnown [] (slice_get plan.units address)
+blank_known size address old plan node whole is =
+    subst (IsKnown []) (sym (blank_there size address old plan node whole is)) (omega arith)
+
+-- and has no vector
+leaf_stays : (plan : CtbPlan) (size address depth : ℕ) →
+    slice_get plan.units address ≡ Some (record { depth = depth; pred = IntraPred dc }) →
+    leaf_of_plan (lists_with_vectors plan) size address ≡
+    leaf_of_plan (lists_of_plan plan) size address
+leaf_stays plan size address depth there =
+    ap (leaf_at (lists_with_vectors plan) size address)
+    (slice_get-map unit_with_vector plan.units address ∙ ap (option_map unit_with_vector) there) ∙
+    sym (ap (leaf_at (lists_of_plan plan) size address) there)
 
 pub blank_decides : (task : Task) (size address : ℕ) (old new : Block) →
     IsNodeOfBlock size address → IsWholePlan old.plan →
     x0 task.place address + side size ≤ task.place.width →
     y0 task.place address + side size ≤ task.place.height →
     new.plan ≡ blank_plan size address old.plan →
-    DecodesLeaf new.plan size address task.place task.qp task.near.now old.samples new.samples →
+    DecodesLeaf (lists_with_vectors new.plan) size address task.place task.qp [] task.near.now
+    old.samples new.samples →
     KeepsOtherSamples size address old.samples new.samples →
     Decides task size address (blank_choice size) old new
 blank_decides task size address old new node whole right bottom is decodes kept =
     let inside = begins_inside task.place size address right bottom in
+    let stays = leaf_stays new.plan size address (depth_of size)
+    (blank_there size address old.plan new.plan node whole is) in
+    let decodes_so : DecodesLeaf (lists_of_plan new.plan) size address task.place task.qp []
+    task.near.now old.samples new.samples = λ d seen.
+    let r = decodes d seen in (
+      r.0,
+      ap (λ tree. decoded_tree task.qp size (x0 task.place address) (y0 task.place address) tree d)
+          (sym stays) ∙
+          r.1,
+      r.2,
+    ) in
     decides_by task size address (blank_choice size) old new
     (blank_kept size address old new node whole is kept)
     (subst (λ p. NamesNode task.place (lists_of_plan p) size address) (sym is)
     (blank_names task.place size address old.plan node whole inside))
     (λ before stands. ap (λ p. node_of_plan task.place p size address) is ∙
     blank_tree task.place size address old.plan node whole inside)
-    (leaf_as_node new.plan size address task.place task.qp task.near.now old.samples new.samples
-    inside
+    (leaf_as_node (lists_of_plan new.plan) size address task.place task.qp [] task.near.now
+    old.samples new.samples inside
     (ap (λ p. is_whole size (slice_get p.units address)) is ∙
-    blank_whole size address old.plan node whole) decodes)
+    blank_whole size address old.plan node whole) decodes_so)

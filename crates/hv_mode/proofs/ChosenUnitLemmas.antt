@@ -16,7 +16,7 @@ use Rattle.hv_tree_model.specs.Trees.{Prediction, Intra, TransformUnit, Leaf}
 use Rattle.hv_tree_model.specs.Sites.{Site, ctb_column, ctb_row, column_of, row_of, x0, y0, squares}
 use Rattle.hv_tree_model.specs.Plans.{part, transform_unit_at, leaf_of}
 use Rattle.hv_tree_model.proofs.NodeLemmas.{IsNode}
-use Rattle.hv_recon_model.specs.Reconstruction.{Component, Decoded, Square, square_at, chroma_of, quarter, neighbours, decoded_unit}
+use Rattle.hv_recon_model.specs.Reconstruction.{Component, Decoded, Square, square_at, chroma_of, quarter, neighbours, decoded_unit, luma_planes, cb_planes, cr_planes}
 use Rattle.hv_recon_model.specs.SeenSamples.{Spot, SamplesAround, IsSeen, luma_spot, chroma_spot, seen_line}
 use Rattle.hv_recon_model.proofs.SeenLemmas.{FitsIn, neighbours_seen}
 use Rattle.hv_recon_model.proofs.SeenNodeLemmas.{power_luma, power_chroma}
@@ -24,11 +24,12 @@ use Rattle.hv_recon.specs.Coding.{input_block, coded_levels, differences as code
 use Rattle.hv_recon.specs.CodedUnits.{IsUnitCoded, AreQuartersCoded}
 use Rattle.hv_recon.specs.CodedLeaves.{IsLeafCoded}
 use Rattle.hv_recon.specs.Leaves.{AreSeen, lists_of_plan, luma_around, cb_around, cr_around}
-use Rattle.hv_recon.proofs.UnitLemmas.{is_node, unit_ends, UnitInPicture}
+use Rattle.hv_recon.proofs.UnitLemmas.{is_node, unit_ends, UnitInPicture, unit_behind}
 use Rattle.hv_recon.proofs.GreatLeafLemmas.{quarter_places, quarter_behind}
 use Rattle.hv_mode_model.specs.ModeDecision.{Given, Before, or_else, differences, chosen_levels, chosen_unit, chosen_quarters, leaf}
 use Rattle.hv_mode.specs.declared.task.Task.{Task}
 use Rattle.hv_mode.specs.Nodes.{given_of}
+use Rattle.hv_recon.specs.Units.{IsUnitPut}
 
 -- ---- a block
 
@@ -38,14 +39,15 @@ same_differences (x ∷ xs) [] = refl
 same_differences (x ∷ xs) (y ∷ ys) = ap (λ l. (pos x -ℤ pos y) ∷ l) (same_differences xs ys)
 
 pub chosen_block : (s : Spot) (around : SamplesAround) (own : List ℕ) (address : ℕ)
-    (samples : Component) (plane : Plane) (x y log2 mode : ℕ) (is_luma : Bool) (qp : ℕ) →
+    (samples : Component) (plane : Plane) (planes : List Plane) (x y log2 mode : ℕ)
+    (is_luma : Bool) (qp : ℕ) →
     FitsIn s.side x y log2 → IsSeen s around own address samples →
     coded_levels log2 mode is_luma qp (input_block plane (s.left + x) (s.top + y) log2)
     (seen_line s around own address x y log2) ≡
-    chosen_levels (Intra mode) is_luma qp plane samples
+    chosen_levels (Intra mode) is_luma qp plane planes samples
     (square_at (s.left + x) (s.top + y) log2)
 unfolding chosen_levels
-chosen_block s around own address samples plane x y log2 mode is_luma qp fits seen =
+chosen_block s around own address samples plane planes x y log2 mode is_luma qp fits seen =
     let block : List ℕ = input_block plane (s.left + x) (s.top + y) log2 in
     ap (λ line. coded_levels log2 mode is_luma qp block line)
     (sym (neighbours_seen s around own address samples x y log2 fits seen)) ∙
@@ -56,17 +58,18 @@ chosen_block s around own address samples plane x y log2 mode is_luma qp fits se
 -- ---- a transform unit
 
 -- the block of chroma under the block of luma
-chroma_levels : (place : Site) (size address mode qp : ℕ) (plane : Plane) (samples : Component) →
-    chosen_levels (Intra mode) false qp plane samples
+chroma_levels : (place : Site) (size address mode qp : ℕ) (plane : Plane) (planes : List Plane)
+    (samples : Component) →
+    chosen_levels (Intra mode) false qp plane planes samples
     (square_at ((chroma_spot place).left + 4 * column_of address)
     ((chroma_spot place).top + 4 * row_of address) (size + 2)) ≡
-    chosen_levels (Intra mode) false qp plane samples
+    chosen_levels (Intra mode) false qp plane planes samples
     (chroma_of (square_at (x0 place address) (y0 place address) (size + 3)))
-chroma_levels place size address mode qp plane samples =
+chroma_levels place size address mode qp plane planes samples =
     let x : 32 * ctb_column place + 4 * column_of address ≡ x0 place address / 2 = omega arith in
     let y : 32 * ctb_row place + 4 * row_of address ≡ y0 place address / 2 = omega arith in
     let log2 : size + 2 ≡ size + 3 - 1 = omega arith in
-    λ i. chosen_levels (Intra mode) false qp plane samples (square_at (x i) (y i) (log2 i))
+    λ i. chosen_levels (Intra mode) false qp plane planes samples (square_at (x i) (y i) (log2 i))
 
 part_of_chroma : (list : List ℤ) (size address : ℕ) →
     part list (16 * address) (2 ^ (size + 3 - 1) * 2 ^ (size + 3 - 1)) ≡
@@ -84,7 +87,7 @@ some_side (suc (suc (suc size))) few = absurd (omega (arith, few))
 pub unit_chosen : (t : Task) (plan : CtbPlan) (size address mode : ℕ) (old new : Samples)
     (d : Decoded) → size ≤ 2 → IsNode size address →
     IsUnitCoded t.input.now plan t.place t.near.now size address mode t.qp old new →
-    AreSeen t.place t.near.now old address d →
+    AreSeen t.place [] t.near.now old address d →
     transform_unit_at (lists_of_plan plan) (size + 3) address ≡
     chosen_unit (given_of t) (Intra mode)
     (square_at (x0 t.place address) (y0 t.place address) (size + 3)) d
@@ -102,20 +105,22 @@ unit_chosen t plan size address mode old new d few node coded seen =
     let luma =
     coded.luma ∙
     chosen_block (luma_spot t.place) (luma_around t.near.now) old.luma address d.luma
-    t.input.now.luma (8 * column_of address) (8 * row_of address) (size + 3) mode true t.qp fits
+    t.input.now.luma (luma_planes d.references) (8 * column_of address) (8 * row_of address) (size + 3) mode true t.qp fits
     seen.luma in
     let cb =
     part_of_chroma plan.cb size address ∙ coded.cb ∙
     chosen_block (chroma_spot t.place) (cb_around t.near.now) old.cb address d.cb t.input.now.cb
-    (4 * column_of address) (4 * row_of address) (size + 2) mode false (chroma_qp t.qp) chroma_fits
+    (cb_planes d.references) (4 * column_of address) (4 * row_of address) (size + 2) mode false (chroma_qp t.qp) chroma_fits
     seen.cb ∙
-    chroma_levels t.place size address mode (chroma_qp t.qp) t.input.now.cb d.cb in
+    chroma_levels t.place size address mode (chroma_qp t.qp) t.input.now.cb
+    (cb_planes d.references) d.cb in
     let cr =
     part_of_chroma plan.cr size address ∙ coded.cr ∙
     chosen_block (chroma_spot t.place) (cr_around t.near.now) old.cr address d.cr t.input.now.cr
-    (4 * column_of address) (4 * row_of address) (size + 2) mode false (chroma_qp t.qp) chroma_fits
+    (cr_planes d.references) (4 * column_of address) (4 * row_of address) (size + 2) mode false (chroma_qp t.qp) chroma_fits
     seen.cr ∙
-    chroma_levels t.place size address mode (chroma_qp t.qp) t.input.now.cr d.cr in
+    chroma_levels t.place size address mode (chroma_qp t.qp) t.input.now.cr
+    (cr_planes d.references) d.cr in
     λ i. record { luma = luma i; cb = cb i; cr = cr i }
 
 -- ---- the four transform units of a leaf of 64x64
@@ -140,17 +145,33 @@ quarter_chosen : (t : Task) (plan : CtbPlan) (address mode : ℕ) (old new : Sam
     (d : Decoded) → address < 64 → address % 16 ≡ 0 → x ≡ x0 t.place address →
     y ≡ y0 t.place address →
     IsUnitCoded t.input.now plan t.place t.near.now 2 address mode t.qp old new →
-    AreSeen t.place t.near.now old address d →
+    AreSeen t.place [] t.near.now old address d →
     unit_at plan address ≡ chosen_unit (given_of t) (Intra mode) (square_at x y 5) d
 quarter_chosen t plan address mode old new x y d below even across down coded seen =
     unit_chosen t plan 2 address mode old new d (lit≤ tt)
     (is_node 2 address (lit≤ tt) below even) coded seen ∙
     sym (λ i. chosen_unit (given_of t) (Intra mode) (square_at (across i) (down i) 5) d)
 
+-- what is decoded behind a quarter
+quarter_decodes : (t : Task) (plan : CtbPlan) (mode address : ℕ) (old new : Samples) (x y : ℕ)
+    (d : Decoded) → address < 64 → address % 16 ≡ 0 → UnitInPicture t.place 2 address →
+    x ≡ x0 t.place address → y ≡ y0 t.place address →
+    IsUnitPut plan t.place t.near.now 2 address mode t.qp old new →
+    AreSeen t.place [] t.near.now old address d →
+    (e : Decoded) ×
+    (decoded_unit t.qp (Intra mode) (square_at x y 5) (unit_at plan address) d ≡ Some e) ×
+    AreSeen t.place [] t.near.now new (address + 16) e
+quarter_decodes t plan mode =
+    quarter_behind (Intra mode) (lists_of_plan plan) t.place [] t.near.now t.qp
+    (λ address. IsUnitPut plan t.place t.near.now 2 address mode t.qp)
+    (λ address old new below even inside put d seen.
+    unit_behind plan t.place [] t.near.now 2 address mode t.qp old new d (lit≤ tt)
+    (is_node 2 address (lit≤ tt) below even) inside put seen)
+
 pub quarters_chosen : (t : Task) (plan : CtbPlan) (mode : ℕ) (old new : Samples) (d : Decoded) →
     UnitInPicture t.place 3 0 →
     AreQuartersCoded t.input.now plan t.place t.near.now mode t.qp old new →
-    AreSeen t.place t.near.now old 0 d →
+    AreSeen t.place [] t.near.now old 0 d →
     unit_at plan 0 ∷ unit_at plan 16 ∷ unit_at plan 32 ∷ unit_at plan 48 ∷ [] ≡
     chosen_quarters (given_of t) (Intra mode) (square_at (x0 t.place 0) (y0 t.place 0) 6) 0 4 d
 quarters_chosen t plan mode old new d inside coded seen =
@@ -159,22 +180,22 @@ quarters_chosen t plan mode old new d inside coded seen =
     let y : ℕ = y0 t.place 0 in
     let g : Given = given_of t in
     let s : Square = square_at x y 6 in
-    let a = quarter_behind plan t.place t.near.now mode t.qp 0 old coded.first x y d (lit< tt) refl
+    let a = quarter_decodes t plan mode 0 old coded.first x y d (lit< tt) refl
     (record { across = omega (arith, inside.across); down = omega (arith, inside.down) }) refl refl
     coded.first_coded.put seen in
-    let b = quarter_behind plan t.place t.near.now mode t.qp 16 coded.first coded.second (x + 32) y
+    let b = quarter_decodes t plan mode 16 coded.first coded.second (x + 32) y
     a.0 (lit< tt) refl
     (record {
       across = omega (arith, inside.across, p.right);
       down = omega (arith, inside.down, p.top);
     }) p.right p.top coded.second_coded.put a.2 in
-    let c = quarter_behind plan t.place t.near.now mode t.qp 32 coded.second coded.third x (y + 32)
+    let c = quarter_decodes t plan mode 32 coded.second coded.third x (y + 32)
     b.0 (lit< tt) refl
     (record {
       across = omega (arith, inside.across, p.left);
       down = omega (arith, inside.down, p.below);
     }) p.left p.below coded.third_coded.put b.2 in
-    let e = quarter_behind plan t.place t.near.now mode t.qp 48 coded.third new (x + 32) (y + 32)
+    let e = quarter_decodes t plan mode 48 coded.third new (x + 32) (y + 32)
     c.0 (lit< tt) refl
     (record {
       across = omega (arith, inside.across, p.last_right);
@@ -198,7 +219,7 @@ quarters_chosen t plan mode old new d inside coded seen =
 small_chosen : (t : Task) (plan : CtbPlan) (size address mode : ℕ) (old new : Samples)
     (before : Before) → size ≤ 2 → IsNode size address →
     IsUnitCoded t.input.now plan t.place t.near.now size address mode t.qp old new →
-    AreSeen t.place t.near.now old address before.decoded →
+    AreSeen t.place [] t.near.now old address before.decoded →
     leaf_of (lists_of_plan plan) size address (IntraPred mode) ≡
     leaf (given_of t) size address before (Intra mode)
 unfolding leaf
@@ -217,7 +238,7 @@ small_chosen t plan (suc (suc (suc size))) address mode old new before few node 
 great_chosen : (t : Task) (plan : CtbPlan) (mode : ℕ) (old new : Samples) (before : Before) →
     UnitInPicture t.place 3 0 →
     AreQuartersCoded t.input.now plan t.place t.near.now mode t.qp old new →
-    AreSeen t.place t.near.now old 0 before.decoded →
+    AreSeen t.place [] t.near.now old 0 before.decoded →
     leaf_of (lists_of_plan plan) 3 0 (IntraPred mode) ≡
     leaf (given_of t) 3 0 before (Intra mode)
 unfolding leaf
@@ -229,7 +250,7 @@ pub leaf_chosen : (t : Task) (plan : CtbPlan) (size address mode : ℕ) (old new
     (before : Before) → size ≤ 3 → address < 64 → address % squares size ≡ 0 →
     UnitInPicture t.place size address →
     IsLeafCoded t.input.now plan t.place t.near.now size address mode t.qp old new →
-    AreSeen t.place t.near.now old address before.decoded →
+    AreSeen t.place [] t.near.now old address before.decoded →
     leaf_of (lists_of_plan plan) size address (IntraPred mode) ≡
     leaf (given_of t) size address before (Intra mode)
 leaf_chosen t plan size address mode old new before few below even inside coded seen =
@@ -247,6 +268,6 @@ leaf_chosen t plan size address mode old new before few below even inside coded 
           (subst (λ n. UnitInPicture t.place n 0) three
           (subst (λ a. UnitInPicture t.place size a) first inside))
           (coded.four three)
-          (subst (λ a. AreSeen t.place t.near.now old a before.decoded) first seen) ∙
+          (subst (λ a. AreSeen t.place [] t.near.now old a before.decoded) first seen) ∙
           sym (λ i. leaf (given_of t) (three i) (first i) before (Intra mode))
     ]

@@ -47,8 +47,9 @@ seen_whatever s around own other samples seen = record {
 }
 
 are_seen_whatever : (place : Site) (near : Neighbours) (own other : Samples) (d : Decoded) →
-    AreSeen place near own 0 d → AreSeen place near other 0 d
+    AreSeen place [] near own 0 d → AreSeen place [] near other 0 d
 are_seen_whatever place near own other d seen = record {
+  same_references = seen.same_references;
   luma = seen_whatever (luma_spot place) (luma_around near) own.luma other.luma d.luma seen.luma;
   cb = seen_whatever (chroma_spot place) (cb_around near) own.cb other.cb d.cb seen.cb;
   cr = seen_whatever (chroma_spot place) (cr_around near) own.cr other.cr d.cr seen.cr;
@@ -64,7 +65,7 @@ nothing_shown site plan = record {
 
 module _ (t : Task) (old new : Block)
     (decides : Decides t greatest_size 0 (best (given_of t) greatest_size 0) old new) where
-  pub tree_of_block : (own : Samples) (d : Decoded) → AreSeen t.place t.near.now own 0 d →
+  pub tree_of_block : (own : Samples) (d : Decoded) → AreSeen t.place [] t.near.now own 0 d →
       tree_of t.place (lists_of_plan new.plan) ≡
       best (given_of t) greatest_size 0 (record { decoded = d; earlier = [] })
   tree_of_block own d seen =
@@ -74,9 +75,9 @@ module _ (t : Task) (old new : Block)
         earlier = nothing_shown t.place (lists_of_plan old.plan);
       })
 
-  pub decodes_block : DecodesBlock new.plan t.place t.qp t.near.now new.samples
+  pub decodes_block : DecodesBlock (lists_of_plan new.plan) t.place t.qp [] t.near.now new.samples
   decodes_block =
-      greatest_node_is_block new.plan t.place t.qp t.near.now new.samples (λ own d seen.
+      greatest_node_is_block (lists_of_plan new.plan) t.place t.qp [] t.near.now new.samples (λ own d seen.
       decides_decodes t greatest_size 0 old new [] (omega arith)
       (nothing_shown t.place (lists_of_plan old.plan)) decides d
       (are_seen_whatever t.place t.near.now own old.samples d seen))

@@ -1,6 +1,6 @@
 -- A node that is decided by one of the tests of the definition is decided as the definition has it:
 -- outside the picture, across its edge (7.4.9.4), and inside of it.
-use Rattle.std.proofs.Common.{◌≡◌, ℕ, ◌+◌, ◌<◌, ◌≤◌, true, false, ◌++◌, sym, subst, arith}
+use Rattle.std.proofs.Common.{◌≡◌, ℕ, ◌+◌, ◌<◌, ◌≤◌, true, false, ◌++◌, sym, subst, arith, []}
 use Rattle.std.proofs.lemmas.Bool.Decides.{nat_tests}
 use Rattle.hv_block.specs.declared.block.Block.{Block}
 use Rattle.hv_tree_model.specs.Trees.{Outside, side}
@@ -44,7 +44,7 @@ module _ (t : Task) (size address : ℕ) (s : Block) (node : IsNodeOfBlock size 
       (squares_outside t.place size address node outside)
 
   nothing : node_of_plan t.place s.plan size address ≡ Outside
-  nothing = outside_node s.plan size address t.place outside
+  nothing = outside_node (lists_of_plan s.plan) size address t.place outside
 
   chosen_nothing : (before : Before) → Outside ≡ best (given_of t) size address before
   chosen_nothing before = sym (best_outside (given_of t) size address before outside)
@@ -60,7 +60,7 @@ module _ (t : Task) (size address : ℕ) (s : Block) (node : IsNodeOfBlock size 
         stands = λ before here. record {
           decoded =
               seen_behind t size address s.plan s s Outside before.decoded
-              (outside_decodes_nothing s.plan size address t.place t.qp t.near.now s.samples
+              (outside_decodes_nothing (lists_of_plan s.plan) size address t.place t.qp [] t.near.now s.samples
               node outside)
               here.decoded nothing;
           earlier =

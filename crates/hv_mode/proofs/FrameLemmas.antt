@@ -1,7 +1,7 @@
 -- Frames of a block in decoding order: what is known before an address holds in each block that has
 -- the same before it, and a copied node restores what stood there (6.5.2).
-use Rattle.std.proofs.Common.{◌≡◌, ℕ, ◌+◌, ◌-◌, ◌*◌, ◌<◌, ◌≤◌, zero, suc, Bool, true, false, List, [], ◌∷◌, ◌++◌, take, take-take, refl, sym, ap, ap₂, ◌∙◌, subst, arith, mul-add}
-use Rattle.std.specs.Prelude.{nat_lt, ◌&&◌, None, slice_get}
+use Rattle.std.proofs.Common.{◌≡◌, ℕ, ◌+◌, ◌-◌, ◌*◌, ◌<◌, ◌≤◌, Bool, true, false, List, ◌++◌, take, take-take, refl, sym, ap, ap₂, ◌∙◌, subst, arith, mul-add}
+use Rattle.std.specs.Prelude.{nat_lt, ◌&&◌, None}
 use Rattle.std.proofs.Math.Seq.{take-add}
 use Rattle.std.proofs.lemmas.Bool.{and_parts, ltb-true, lt-ltb}
 use Rattle.hv_block.specs.declared.block.Block.{Block}
@@ -16,7 +16,7 @@ use Rattle.hv_mode_model.specs.ModeDecision.{Before}
 use Rattle.hv_mode.specs.declared.task.Task.{Task}
 use Rattle.hv_mode.specs.Nodes.{Stands, SameSamples, SameBefore, Decides, SameInNode, CopiesNode}
 use Rattle.hv_lemmas.proofs.BooleanLemmas.{same_where, other_where}
-use Rattle.hv_lemmas.proofs.ListLemmas.{got_before, get_before}
+use Rattle.hv_lemmas.proofs.ListLemmas.{get_before}
 
 -- ---- lists that begin alike
 
@@ -181,6 +181,7 @@ stands_since task address before s t same stands = record {
     luma = seen_same _ _ s.samples.luma t.samples.luma address _ same.luma stands.decoded.luma;
     cb = seen_same _ _ s.samples.cb t.samples.cb address _ same.cb stands.decoded.cb;
     cr = seen_same _ _ s.samples.cr t.samples.cr address _ same.cr stands.decoded.cr;
+    same_references = stands.decoded.same_references;
   };
   earlier = record {
     count = stands.earlier.count;

@@ -1,18 +1,17 @@
 -- A leaf that was set and coded is chosen, as the nodes of a coding tree block are: what comes
 -- before it is kept, its squares name it, and what is decoded behind it is seen.
-use Rattle.std.proofs.Common.{◌≡◌, ℕ, zero, suc, ◌+◌, ◌-◌, ◌^◌, ◌<◌, ◌≤◌, true, false, List, [], ◌∷◌, ◌++◌, length, take, drop, replicate, get_or, refl, sym, ap, subst, ◌∙◌, arith, inl, inr, length-append}
+use Rattle.std.proofs.Common.{◌≡◌, ℕ, zero, suc, ◌+◌, ◌-◌, ◌^◌, ◌<◌, ◌≤◌, true, false, List, [], ◌++◌, length, take, drop, replicate, get_or, refl, sym, ap, subst, ◌∙◌, arith, inl, inr, length-append}
 use Rattle.std.specs.Prelude.{Some, slice_get, slice_index_or}
 use Rattle.std.proofs.Math.Dec.{lit≤}
 use Rattle.std.proofs.lemmas.Bool.{cases_lt}
 use Rattle.std.proofs.lemmas.Bool.Decides.{nat_tests}
-use Rattle.std.proofs.lemmas.Grind.{common_steps}
 use Rattle.std.proofs.lemmas.List.{take_at, length-take-le, length-replicate, get_or-append_right, get_or_append_left, get_or-replicate}
 use Rattle.std.proofs.lemmas.Option.{slice_get-get_or}
 use Rattle.hv_block.specs.declared.block.Block.{Block}
 use Rattle.hv_block.specs.Plans.{CtbPlan, with_units, unit_of}
 use Rattle.hv_plan.specs.declared.prediction.Pred.TheVariants.{Intra as IntraPred}
 use Rattle.hv_plan.specs.declared.prediction.Unit.{Unit}
-use Rattle.hv_tree_model.specs.Trees.{Prediction, Intra, TransformUnit, Tree, Leaf, side, depth_of, log2TrafoSize, transform_units}
+use Rattle.hv_tree_model.specs.Trees.{Intra, TransformUnit, Tree, Leaf, side, depth_of, log2TrafoSize, transform_units}
 use Rattle.hv_tree_model.specs.Sites.{Site, squares, is_outside}
 use Rattle.hv_tree_model.specs.EarlierUnits.{Square, Unavailable, Coded, squares_of}
 use Rattle.hv_tree_model.specs.Plans.{leaf_at, leaf_of, transform_units_at, square_or_none}
@@ -26,7 +25,7 @@ use Rattle.hv_mode_model.specs.ModeDecision.{Before, or_else, behind, decoded_be
 use Rattle.hv_mode.specs.declared.task.Task.{Task}
 use Rattle.hv_mode.specs.Nodes.{given_of, Stands, SameBefore, Decides}
 use Rattle.hv_mode.proofs.ChosenUnitLemmas.{leaf_chosen}
-use Rattle.hv_lemmas.proofs.ListLemmas.{got_before, get_before}
+use Rattle.hv_lemmas.proofs.ListLemmas.{get_before}
 use Rattle.hv_tree_model.proofs.NodeLemmas.{leaf_squares}
 use Rattle.hv_recon.proofs.CodedLeafLemmas.{some_squares}
 
@@ -136,7 +135,7 @@ module _ (place : Site) (size address mode : ℕ) (old new : CtbPlan) (node : Is
   pub node_is : node_of_plan place new size address ≡
       leaf_of (lists_of_plan new) size address (IntraPred mode)
   node_is =
-      leaf_node new size address place
+      leaf_node (lists_of_plan new) size address place
       (leaf_inside place size address inside (some_side size node.size_at_most))
       (ap (is_whole size) first_there ∙ one_unit size mode) ∙ leaf_is
 
@@ -196,7 +195,7 @@ module _ (t : Task) (size address mode : ℕ) (old new : Block) (node : IsNodeOf
     (inside : UnitInPicture t.place size address) (room : length old.plan.units ≡ 64)
     (coded : IsLeafCoded t.input.now new.plan t.place t.near.now size address mode t.qp old.samples
     new.samples) (set : IsLeafSet size address mode old.plan new.plan)
-    (decoded : DecodesLeaf new.plan size address t.place t.qp t.near.now old.samples new.samples)
+    (decoded : DecodesLeaf (lists_of_plan new.plan) size address t.place t.qp [] t.near.now old.samples new.samples)
     (kept : KeepsOtherSamples size address old.samples new.samples) where
   made : (before : Before) → Stands t old address before →
       leaf_of (lists_of_plan new.plan) size address (IntraPred mode) ≡
@@ -206,7 +205,7 @@ module _ (t : Task) (size address mode : ℕ) (old new : Block) (node : IsNodeOf
       node.inside node.multiple inside coded stands.decoded
 
   seen_behind : (before : Before) → Stands t old address before →
-      AreSeen t.place t.near.now new.samples (address + squares size)
+      AreSeen t.place [] t.near.now new.samples (address + squares size)
       (decoded_behind (given_of t) size address (LeafTree t size address before mode)
       before.decoded)
   seen_behind before stands =
@@ -218,7 +217,7 @@ module _ (t : Task) (size address mode : ℕ) (old new : Block) (node : IsNodeOf
       before.decoded ≡ e.0 =
       ap (λ u. decoded_behind (given_of t) size address u before.decoded) (sym tree) ∙
       ap (or_else before.decoded) e.1 in
-      subst (AreSeen t.place t.near.now new.samples (address + squares size)) (sym reached) e.2
+      subst (AreSeen t.place [] t.near.now new.samples (address + squares size)) (sym reached) e.2
 
   shown_behind : (before : Before) → Stands t old address before →
       Shows t.place (lists_of_plan new.plan) (address + squares size)

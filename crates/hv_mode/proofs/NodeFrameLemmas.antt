@@ -1,13 +1,12 @@
 -- Nodes of a block in decoding order (6.5.2): a later write keeps a node's tree and the names of
 -- its units, and a node that decodes as it is chosen is decided.
-use Rattle.std.proofs.Common.{◌≡◌, ℕ, zero, suc, ◌+◌, ◌-◌, ◌*◌, ◌^◌, ◌<◌, ◌≤◌, Bool, true, false, cond, List, ◌∷◌, ◌++◌, take, drop, refl, sym, ap, ap₂, ◌∙◌, subst, arith}
+use Rattle.std.proofs.Common.{◌≡◌, ℕ, zero, suc, ◌+◌, ◌-◌, ◌*◌, ◌^◌, ◌<◌, ◌≤◌, Bool, true, false, cond, List, ◌∷◌, ◌++◌, take, drop, refl, sym, ap, ap₂, ◌∙◌, subst, arith, []}
 use Rattle.std.specs.Prelude.{nat_le, slice_get, slice_index_or, Option, Some, None}
 use Rattle.std.proofs.lemmas.List.{drop-take}
 use Rattle.std.proofs.lemmas.Bool.{true≢false}
 use Rattle.std.proofs.lemmas.Bool.Decides.{nat_tests}
 use Rattle.hv_plan.specs.declared.prediction.Unit.{Unit}
 use Rattle.hv_block.specs.declared.block.Block.{Block}
-use Rattle.hv_block.specs.Plans.{plan_of_lists}
 use Rattle.hv_tree_model.specs.Trees.{Tree, Leaf, Split, Outside, depth_of, log2TrafoSize, transform_units}
 use Rattle.hv_tree_model.specs.Sites.{Site, squares, is_outside}
 use Rattle.hv_tree_model.specs.EarlierUnits.{Square, Unavailable, squares_of}
@@ -194,7 +193,7 @@ pub decides_by : (task : Task) (size address : ℕ) (choice : Before → Tree) (
     SameBefore address old new → NamesNode task.place (lists_of_plan new.plan) size address →
     ((before : Before) → Stands task old address before →
     node_of_plan task.place new.plan size address ≡ choice before) →
-    DecodesNode new.plan size address task.place task.qp task.near.now old.samples new.samples →
+    DecodesNode (lists_of_plan new.plan) size address task.place task.qp [] task.near.now old.samples new.samples →
     Decides task size address choice old new
 decides_by task size address choice old new same names tree decodes = record {
   kept = same;
@@ -209,7 +208,7 @@ decides_by task size address choice old new same names tree decodes = record {
       ap (or_else d) r.1 in
       let next : ℕ = address + squares size in
       record {
-        decoded = subst (AreSeen task.place task.near.now new.samples next) (sym is) r.2;
+        decoded = subst (AreSeen task.place [] task.near.now new.samples next) (sym is) r.2;
         earlier = subst (λ chosen. Shows task.place (lists_of_plan new.plan) next
             (before.earlier ++ squares_of size chosen)) same_tree
             (shows_behind task.place size address before.earlier old new stands.earlier same names);
@@ -256,6 +255,5 @@ pub names_four : (place : Site) (plan : Plan) (size address : ℕ) →
     NamesNode place plan (suc size) address
 names_four place plan size address inside split first second third fourth =
     names_by_parts place plan size address
-    (split_node (plan_of_lists plan.units plan.luma plan.cb plan.cr) size address place inside
-    split)
+    (split_node plan size address place inside split)
     (record { first = first; second = second; third = third; fourth = fourth })

@@ -2,7 +2,6 @@
 -- it, and so all as the picture's choice has them.
 use Rattle.std.proofs.Common.{◌≡◌, ℕ, zero, suc, ◌+◌, ◌*◌, ◌<◌, ◌≤◌, List, [], ◌∷◌, ◌++◌, length, length-set, take, set, refl, sym, ap, ap₂, subst, ◌∙◌, arith, inl, inr}
 use Rattle.std.specs.Prelude.{slice_get, Some, is_some, option_map}
-use Rattle.std.specs.Int.{div_ceil}
 use Rattle.std.proofs.lemmas.Bool.{false≢true, cases_lt}
 use Rattle.std.proofs.lemmas.List.{length-map, length-take-le}
 use Rattle.std.proofs.lemmas.Option.{slice_get-map, slice_get_within}
@@ -32,7 +31,6 @@ use Rattle.hv_mode_model.proofs.SeenChoiceLemmas.{chosen_in_block}
 use Rattle.hv_mode.specs.declared.task.Task.{Task as BlockTask}
 use Rattle.hv_mode.specs.Nodes.{given_of, Stands, Decides}
 use Rattle.hv_mode.specs.Pictures.{plans_of, NameTheirUnits, given_by, before_block, IsSeenBefore, IsChosen, DecidesBlock, AreChosen}
-use Rattle.hv_tree_model.proofs.NodeLemmas.{blocks_counted}
 
 pub some_across : (width : ℕ) → 0 < width → 0 < blocks_over width
 some_across width some = omega (arith, some)
@@ -173,7 +171,7 @@ module _ (t : Task) (width height : ℕ) (blocks : List Block)
         lies_around blocks here columns (omega (arith, inside))
         (λ k plan early e. plan_whole k plan e)
 
-    module _ (d : Decoded) (decoded : BlocksAreDecoded width height blocks first d) where
+    module _ (d : Decoded) (decoded : BlocksAreDecoded width height [] blocks first d) where
       abbrev g : Given
       g = given_by t here near
 
@@ -185,7 +183,7 @@ module _ (t : Task) (width height : ℕ) (blocks : List Block)
 
       seen_before : IsSeenBefore here near d
       seen_before =
-          seen_so width height blocks samples_whole first (omega (arith, inside)) columns d decoded
+          seen_so width height [] blocks samples_whole first (omega (arith, inside)) columns d decoded
 
       in_picture : best g greatest_size 0 (before_block d) ≡ tree
       in_picture = chosen_in_block t here (take first plans) (around_of near) d plans_before lies
@@ -200,11 +198,11 @@ module _ (t : Task) (width height : ℕ) (blocks : List Block)
           (sym (corner_y here)) ∙
           decoded_node (given_at t here done) greatest_size 0 (before_block d) (omega arith)
 
-      pub decoded_more : BlocksAreDecoded width height blocks (first + 1) behind_it
+      pub decoded_more : BlocksAreDecoded width height [] blocks (first + 1) behind_it
       decoded_more =
-          one_block_more width height blocks samples_whole first (omega (arith, inside)) columns
+          one_block_more width height [] blocks samples_whole first (omega (arith, inside)) columns
           block d behind_it there decoded
-          (subst (λ e. AreSeen here near block.samples 64 e)
+          (subst (λ e. AreSeen here [] near block.samples 64 e)
           (ap (λ chosen_tree. decoded_behind g greatest_size 0 chosen_tree d) in_picture)
           ((got first block there).seen d seen_before))
           (kept_by (ctb_side * ctb_column here) (ctb_side * ctb_row here) 64 d behind_it _ decodes
@@ -231,19 +229,19 @@ module _ (t : Task) (width height : ℕ) (blocks : List Block)
     trees :
         trees_from width height first rest ≡ best_trees t (sites_from left width height first) done d
     decoded :
-        BlocksAreDecoded width height blocks (length blocks)
+        BlocksAreDecoded width height [] blocks (length blocks)
         (best_decoded t (sites_from left width height first) done d)
 
   blocks_reach : (left first : ℕ) (rest : List Block) → length rest ≡ left →
       first + left ≡ length blocks → BlocksFrom blocks first rest → (d : Decoded) →
-      BlocksAreDecoded width height blocks first d →
+      BlocksAreDecoded width height [] blocks first d →
       Reaches left first rest (squares_of_plans width height 0 (take first plans)) d
   unfolding best_trees best_decoded
   blocks_reach zero first [] long total from d decoded = record {
     trees = refl;
     decoded =
         let last : first ≡ length blocks = omega (arith, total) in
-        subst (λ n. BlocksAreDecoded width height blocks n d) last decoded;
+        subst (λ n. BlocksAreDecoded width height [] blocks n d) last decoded;
   }
   blocks_reach zero first (block ∷ rest) long total from d decoded = absurd (omega (arith, long))
   blocks_reach (suc left) first [] long total from d decoded = absurd (omega (arith, long))
@@ -265,24 +263,24 @@ module _ (t : Task) (width height : ℕ) (blocks : List Block)
             ap₂ (λ x xs. x ∷ xs) (tree_is first block there columns d decoded)
             (others.trees ∙ ap (λ list. best_trees t later list reached) (sym squares));
         decoded =
-            subst (λ list. BlocksAreDecoded width height blocks (length blocks)
+            subst (λ list. BlocksAreDecoded width height [] blocks (length blocks)
             (best_decoded t later list reached)) (sym squares) others.decoded;
       }
 
-  all_reached : Reaches (blocks_over width * blocks_over height) 0 blocks [] nothing_decoded
+  all_reached : Reaches (blocks_over width * blocks_over height) 0 blocks [] (nothing_decoded [])
   all_reached =
       blocks_reach (blocks_over width * blocks_over height) 0 blocks count
-      (omega (arith, count)) (from_start blocks) nothing_decoded (none_decoded width height blocks)
+      (omega (arith, count)) (from_start blocks) (nothing_decoded []) (none_decoded width height [] blocks)
 
   pub trees_are :
-      trees_of width height blocks ≡ best_trees t (sites width height) [] nothing_decoded
+      trees_of width height blocks ≡ best_trees t (sites width height) [] (nothing_decoded [])
   unfolding sites
   trees_are = all_reached.trees
 
   pub decoded_are :
       AreOfBlocks width height blocks
-      (best_decoded t (sites width height) [] nothing_decoded)
+      (best_decoded t (sites width height) [] (nothing_decoded []))
   unfolding sites
   decoded_are =
-      are_of_blocks width height blocks samples_whole count
-      (best_decoded t (sites width height) [] nothing_decoded) all_reached.decoded
+      are_of_blocks width height [] blocks samples_whole count
+      (best_decoded t (sites width height) [] (nothing_decoded [])) all_reached.decoded

@@ -1,6 +1,6 @@
 -- Squared differences at a node of a coding tree block: those by the block's own rows are those of
 -- whatever is decoded of the picture and is seen so behind the node.
-use Rattle.std.proofs.Common.{◌≡◌, ℕ, ◌+◌, ◌-◌, ◌*◌, ◌/◌, ◌%◌, ◌^◌, ◌<◌, ◌≤◌, Bool, true, false, List, refl, sym, ap, ap₂, subst, ◌∙◌, arith, inl, inr}
+use Rattle.std.proofs.Common.{◌≡◌, ℕ, ◌+◌, ◌-◌, ◌*◌, ◌/◌, ◌%◌, ◌^◌, ◌<◌, ◌≤◌, Bool, true, false, List, refl, sym, ap, ap₂, subst, ◌∙◌, arith, inl, inr, []}
 use Rattle.std.specs.Prelude.{nat_le, nat_lt, ◌&&◌, ◌||◌}
 use Rattle.std.proofs.lemmas.Bool.{cases_lt, lt-ltb}
 use Rattle.std.proofs.lemmas.Bool.Decides.{nat_tests}
@@ -19,12 +19,10 @@ use Rattle.hv_recon_model.specs.SeenSamples.{Spot, SamplesAround, IsSeen, luma_s
 use Rattle.hv_recon_model.proofs.SeenLemmas.{own_sample}
 use Rattle.hv_recon_model.proofs.SeenNodeLemmas.{node_ends, power_luma, power_chroma, luma_between, chroma_between}
 use Rattle.hv_recon.specs.Leaves.{AreSeen, luma_around, cb_around, cr_around}
-use Rattle.hv_recon.specs.DecodedNodes.{IsNodeOfBlock}
 use Rattle.hv_mode_model.specs.ModeDecision.{squared_difference, squared_differences, squared_errors}
 use Rattle.hv_mode.specs.declared.square.Square.{Square}
 use Rattle.hv_mode.specs.NodeErrors.{errors_by_rows, IsLumaOfNode, IsChromaOf, Fit}
 use Rattle.hv_sample_model.proofs.SumLemmas.{total_of_same}
-use Rattle.hv_recon.proofs.NodeLemmas.{node_of_block}
 
 -- ---- a square of one component
 
@@ -225,7 +223,7 @@ errors_at n input own left top column row log2 =
 
 module _ (place : Site) (near : Neighbours) (own : Samples) (input : Picture) (d : Decoded)
     (size address : ℕ) (node : IsNode size address) (inside : NodeInPicture place size address)
-    (seen : AreSeen place near own (address + squares size) d) (luma chroma : Square)
+    (seen : AreSeen place [] near own (address + squares size) d) (luma chroma : Square)
     (are : IsLumaOfNode place size address luma) (half_of : IsChromaOf luma chroma) where
   next : ℕ
   next = address + squares size

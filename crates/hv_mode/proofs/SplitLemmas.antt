@@ -1,6 +1,6 @@
 -- A node that is decided as the definition has it is decoded so (8.4), and so is one that is split
 -- into four nodes that are decided one behind the other.
-use Rattle.std.proofs.Common.{◌≡◌, ℕ, suc, ◌+◌, ◌-◌, ◌*◌, ◌<◌, ◌≤◌, false, ◌++◌, refl, sym, ap, subst, ◌∙◌, arith}
+use Rattle.std.proofs.Common.{◌≡◌, ℕ, suc, ◌+◌, ◌-◌, ◌*◌, ◌<◌, ◌≤◌, false, ◌++◌, refl, sym, ap, subst, ◌∙◌, arith, []}
 use Rattle.std.specs.Prelude.{List, slice_get}
 use Rattle.std.proofs.Math.Dec.{lit<}
 use Rattle.hv_block.specs.declared.block.Block.{Block}
@@ -38,7 +38,7 @@ pub decodes_by : (t : Task) (size address : ℕ) (plan : CtbPlan) (old new : Blo
     ((before : Before) → Stands t old address before →
     Stands t new (address + squares size)
     (behind (given_of t) size address (Chosen t size address before) before)) →
-    DecodesNode plan size address t.place t.qp t.near.now old.samples new.samples
+    DecodesNode (lists_of_plan plan) size address t.place t.qp [] t.near.now old.samples new.samples
 decodes_by t size address plan old new earlier few shows tree stands d seen =
     let before : Before = record { decoded = d; earlier = earlier } in
     let here : Stands t old address before = record { decoded = seen; earlier = shows } in (
@@ -52,17 +52,17 @@ decodes_by t size address plan old new earlier few shows tree stands d seen =
 pub decides_decodes : (t : Task) (size address : ℕ) (old new : Block) (earlier : List Square) →
     size ≤ greatest_size → Shows t.place (lists_of_plan old.plan) address earlier →
     Decides t size address (Chosen t size address) old new →
-    DecodesNode new.plan size address t.place t.qp t.near.now old.samples new.samples
+    DecodesNode (lists_of_plan new.plan) size address t.place t.qp [] t.near.now old.samples new.samples
 decides_decodes t size address old new earlier few shows decides =
     decodes_by t size address new.plan old new earlier few shows decides.tree decides.stands
 
 -- so what is decoded behind the tree is seen
 pub seen_behind : (t : Task) (size address : ℕ) (plan : CtbPlan) (old new : Block) (tree : Tree)
     (d : Decoded) →
-    DecodesNode plan size address t.place t.qp t.near.now old.samples new.samples →
-    AreSeen t.place t.near.now old.samples address d →
+    DecodesNode (lists_of_plan plan) size address t.place t.qp [] t.near.now old.samples new.samples →
+    AreSeen t.place [] t.near.now old.samples address d →
     node_of_plan t.place plan size address ≡ tree →
-    AreSeen t.place t.near.now new.samples (address + squares size)
+    AreSeen t.place [] t.near.now new.samples (address + squares size)
     (decoded_behind (given_of t) size address tree d)
 seen_behind t size address plan old new tree d decodes seen same =
     let r = decodes d seen in
@@ -70,7 +70,7 @@ seen_behind t size address plan old new tree d decodes seen same =
     ap (λ u. or_else d (decoded_tree t.qp size (x0 t.place address) (y0 t.place address) u d))
     (sym same) ∙
     ap (or_else d) r.1 in
-    subst (λ e. AreSeen t.place t.near.now new.samples (address + squares size) e) (sym of_tree) r.2
+    subst (λ e. AreSeen t.place [] t.near.now new.samples (address + squares size) e) (sym of_tree) r.2
 
 -- ---- the children of a node
 
@@ -199,7 +199,7 @@ module _ (t : Task) (size address : ℕ) (s0 s1 s2 s3 s4 : Block)
 
       tree : node_of_plan t.place s4.plan (suc size) address ≡ split before
       tree =
-          split_node s4.plan size address t.place inside lies_deeper ∙
+          split_node (lists_of_plan s4.plan) size address t.place inside lies_deeper ∙
           rw (
             first_stays.tree before here,
             second_stays.tree behind_a after_a,
@@ -208,10 +208,10 @@ module _ (t : Task) (size address : ℕ) (s0 s1 s2 s3 s4 : Block)
           ) refl
 
       -- and decoded so
-      decodes : DecodesNode s4.plan (suc size) address t.place t.qp t.near.now s0.samples s4.samples
+      decodes : DecodesNode (lists_of_plan s4.plan) (suc size) address t.place t.qp [] t.near.now s0.samples s4.samples
       decodes =
-          split_by_children s4.plan size address t.place t.qp t.near.now s0.samples s1.samples
-          s2.samples s3.samples s4.samples node inside lies_deeper
+          split_by_children (lists_of_plan s4.plan) size address t.place t.qp [] t.near.now
+          s0.samples s1.samples s2.samples s3.samples s4.samples node inside lies_deeper
           (decodes_by t size address s4.plan s0 s1 before.earlier few here.earlier
           first_stays.tree first.stands)
           (decodes_by t size (address + n) s4.plan s1 s2 behind_a.earlier few after_a.earlier

@@ -1,6 +1,6 @@
 -- A node that is tried as one coding unit and split: what each costs, and the first that costs
 -- least.
-use Rattle.std.proofs.Common.{◌≡◌, ℕ, ◌+◌, ◌<◌, ◌≤◌, cond, sym, ap, ap₂, subst, ◌∙◌}
+use Rattle.std.proofs.Common.{◌≡◌, ℕ, ◌+◌, ◌<◌, ◌≤◌, cond, sym, ap, ap₂, subst, ◌∙◌, []}
 use Rattle.std.specs.Prelude.{nat_lt}
 use Rattle.hv_lemmas.proofs.ComparisonLemmas.{lt_below, lt_not_below}
 use Rattle.hv_block.specs.declared.block.Block.{Block}
@@ -39,7 +39,7 @@ CountsNode t size address block result =
     (before : Before) (tree : Tree) →
     Shows t.place (lists_of_plan block.plan) address before.earlier →
     tree ≡ node_of_plan t.place block.plan size address →
-    AreSeen t.place t.near.now block.samples (address + squares size)
+    AreSeen t.place [] t.near.now block.samples (address + squares size)
     (decoded_behind (given_of t) size address tree before.decoded) →
     result ≡ cost_of (given_of t) size address before tree
 

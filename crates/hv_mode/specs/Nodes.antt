@@ -1,6 +1,6 @@
 -- A node of a coding tree block of the code: what is chosen for it behind whatever stands before
 -- it, in one block that is written.
-use Rattle.std.specs.Prelude.{◌≡◌, ℕ, ◌+◌, ◌*◌, ◌<◌, true, false, List, take}
+use Rattle.std.specs.Prelude.{◌≡◌, ℕ, ◌+◌, ◌*◌, ◌<◌, true, false, List, take, []}
 use Rattle.hv_block.specs.declared.block.Block.{Block}
 use Rattle.hv_tree_model.specs.Trees.{Tree, Leaf, Intra, no_units}
 use Rattle.hv_tree_model.specs.Sites.{squares}
@@ -26,7 +26,7 @@ given_of t = record {
 -- Where a choice begins stands so in a block, at an address: what is decoded of the picture is seen
 -- from it, and the squares that were chosen so far are those of its plan.
 pub record Stands (t : Task) (block : Block) (address : ℕ) (before : Before) : Type 0 where
-  pub decoded : AreSeen t.place t.near.now block.samples address before.decoded
+  pub decoded : AreSeen t.place [] t.near.now block.samples address before.decoded
   pub earlier : Shows t.place (lists_of_plan block.plan) address before.earlier
 
 -- ---- two blocks that have the same before an address, in decoding order

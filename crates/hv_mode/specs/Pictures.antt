@@ -51,7 +51,7 @@ before_block d = record { decoded = d; earlier = [] }
 
 -- whatever stands in the block's own place
 abbrev pub IsSeenBefore : Site → Neighbours → Decoded → Type 0
-IsSeenBefore here near d = (own : Samples) → AreSeen here near own 0 d
+IsSeenBefore here near d = (own : Samples) → AreSeen here [] near own 0 d
 
 -- Whatever is decoded of the picture and is seen so before the block: its tree is the one that is
 -- chosen behind it, and what is decoded behind that tree is seen with the block's samples.
@@ -65,7 +65,7 @@ pub record IsChosen (t : Task) (here : Site) (near : Neighbours) (block : Block)
       best (given_by t here near) greatest_size 0 (before_block d)
   pub seen :
       (d : Decoded) → IsSeenBefore here near d →
-      AreSeen here near block.samples 64
+      AreSeen here [] near block.samples 64
       (decoded_behind (given_by t here near) greatest_size 0
       (best (given_by t here near) greatest_size 0 (before_block d)) d)
 

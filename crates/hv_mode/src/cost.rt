@@ -1,6 +1,6 @@
 //! What a node costs: how far its samples are from the input, and its bins by their weight.
 
-ghost use Rattle.std.specs.Prelude.{◌≡◌, ◌+◌, ◌^◌, ◌<◌, ◌≤◌, List, length};
+ghost use Rattle.std.specs.Prelude.{◌≡◌, ◌+◌, ◌^◌, ◌<◌, ◌≤◌, List, length, []};
 ghost use Rattle.hv_tree_model.specs.Trees.{Tree, side};
 ghost use Rattle.hv_tree_model.specs.Sites.{squares, x0, y0};
 ghost use Rattle.hv_tree_model.specs.EarlierUnits.{Square};
@@ -55,7 +55,7 @@ pub(crate) fn cost_node(task: &Task<'_>, size: u8, address: u8, block: &Block) -
     ensures { (before : Before) (tree : Tree) →
         Shows task.now.place (lists_of_plan block.now.plan) address before.earlier →
         tree ≡ node_of_plan task.now.place block.now.plan size address →
-        AreSeen task.now.place task.now.near.now block.now.samples (address + squares size)
+        AreSeen task.now.place [] task.now.near.now block.now.samples (address + squares size)
         (decoded_behind (given_of task.now) size address tree before.decoded) →
         result ≡ cost_of (given_of task.now) size address before tree }
 {

@@ -46,11 +46,11 @@ pub fn decide_ctb(task: &Task<'_>, room: &mut Room, out: &mut Block)
     ensures decides { Decides task.now greatest_size 0 (best (given_of task.now) greatest_size 0)
         out.old out.new }
     ensures tree { (own : Samples) (d : Decoded) →
-        AreSeen task.now.place task.now.near.now own 0 d →
+        AreSeen task.now.place [] task.now.near.now own 0 d →
         tree_of task.now.place (lists_of_plan out.new.plan) ≡
         best (given_of task.now) greatest_size 0 record { decoded = d; earlier = [] } }
     ensures names { NamesItsUnits task.now.place (lists_of_plan out.new.plan) }
-    ensures decodes { DecodesBlock out.new.plan task.now.place task.now.qp task.now.near.now
+    ensures decodes { DecodesBlock (lists_of_plan out.new.plan) task.now.place task.now.qp [] task.now.near.now
         out.new.samples }
 {
     decide_node(task, &mut room.blocks, 3, 0, out);

@@ -1,6 +1,6 @@
 //! How far the samples of a node are from the input: the sum of squared differences.
 
-ghost use Rattle.std.specs.Prelude.{◌≡◌, ◌+◌, ◌*◌, ◌/◌, ◌^◌, ◌<◌, ◌≤◌, length, drop};
+ghost use Rattle.std.specs.Prelude.{◌≡◌, ◌+◌, ◌*◌, ◌/◌, ◌^◌, ◌<◌, ◌≤◌, length, drop, []};
 ghost use Rattle.hv_tree_model.specs.Trees.{side};
 ghost use Rattle.hv_tree_model.specs.Sites.{column_of, row_of, squares, x0, y0};
 ghost use Rattle.hv_recon_model.specs.Reconstruction.{Decoded};
@@ -150,7 +150,7 @@ pub(crate) fn node_errors(task: &Task<'_>, size: u8, address: u8, samples: &Samp
     requires right { x0 task.now.place address + side size ≤ task.now.place.width }
     requires bottom { y0 task.now.place address + side size ≤ task.now.place.height }
     ensures value { (d : Decoded) →
-        AreSeen task.now.place task.now.near.now samples.now (address + squares size) d →
+        AreSeen task.now.place [] task.now.near.now samples.now (address + squares size) d →
         result ≡
         squared_errors task.now.input.now d (node_square (given_of task.now) size address) }
     ensures most { result < 2 ^ 34 }

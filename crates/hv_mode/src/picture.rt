@@ -27,10 +27,10 @@ pub fn decide_blocks(task: &PictureTask<'_>, room: &mut Room, blocks: &mut Vec<B
     ensures count { length blocks.new.items ≡ length blocks.old.items }
     ensures trees { trees_of task.now.width task.now.height blocks.new.items ≡
         best_trees (task_of task.now) (sites task.now.width task.now.height) []
-        nothing_decoded }
+        (nothing_decoded []) }
     ensures decoded { AreOfBlocks task.now.width task.now.height blocks.new.items
         (best_decoded (task_of task.now) (sites task.now.width task.now.height) []
-        nothing_decoded) }
+        (nothing_decoded [])) }
     ensures names { NameTheirUnits task.now.width task.now.height
         (plans_of blocks.new.items) }
 {

@@ -2,7 +2,7 @@ use Rattle.std.proofs.Common.{ap, ◌∙◌, arith}
 use Rattle.hv_block.specs.Plans.{with_leaf}
 use Rattle.hv_plan.specs.declared.prediction.Pred.TheVariants.{Intra}
 use Rattle.hv_mode.proofs.CopyLemmas.{node_fits, squares_of_size}
-use Rattle.hv_mode.proofs.BlankLemmas.{blank_intra, blank_decides}
+use Rattle.hv_mode.proofs.BlankLemmas.{blank_known, blank_decides}
 use Rattle.hv_mode.proofs.blank.decide_blank.Goals as goal
 
 pub clear_levels-requires-clause-fits : goal.clear_levels-requires-clause-fits
@@ -13,9 +13,9 @@ clear_levels-requires-clause-fits c =
       squares_of_size c.args.size,
     )
 
-pub rebuild_leaf-requires-clause-intra : goal.rebuild_leaf-requires-clause-intra
-rebuild_leaf-requires-clause-intra c =
-    blank_intra c.args.size c.args.address c.args.out.now.plan c.set_leaf.new.self c.requires.node
+pub rebuild_leaf-requires-clause-known : goal.rebuild_leaf-requires-clause-known
+rebuild_leaf-requires-clause-known c =
+    blank_known c.args.size c.args.address c.args.out.now.plan c.set_leaf.new.self c.requires.node
     c.clear_levels.ensures.whole
     (c.set_leaf.ensures ∙ ap (λ p. with_leaf p c.args.size c.args.address (Intra 1))
     c.clear_levels.ensures.value)

@@ -416,7 +416,13 @@ fn each_mode(rt: HostRuntime) -> Result<(), Fail> {
         assert!(rt; rebuild(&mut block, place(3), (0, 0), mode, &near));
         let (luma, cb) = (block.samples.luma(), block.samples.cb());
         let (known_luma, known_cb) = MODES[usize::from(mode)];
-        let of_luma = [luma[0], luma[7], luma[64 * 7], luma[64 * 7 + 7], luma[64 * 5 + 3]];
+        let of_luma = [
+            luma[0],
+            luma[7],
+            luma[64 * 7],
+            luma[64 * 7 + 7],
+            luma[64 * 5 + 3],
+        ];
         let of_cb = [cb[0], cb[3], cb[32 * 3], cb[32 * 3 + 3], cb[32 * 2 + 1]];
         assert_eq!(rt; (mode, of_luma), (mode, known_luma));
         assert_eq!(rt; (mode, of_cb), (mode, known_cb));

@@ -1,15 +1,14 @@
 -- Samples that are counted one after another.
-use Rattle.std.proofs.Common.{◌≡◌, ℕ, suc, ◌+◌, ◌<◌, ◌≤◌, cond, nat_lt, ⊎_elim, List, [], ◌∷◌, ◌++◌, length, get_or, slice_set, ℤ, pos, ◌+ℤ◌, ◌-ℤ◌, refl, sym, ◌∙◌, ap, ap₂, subst, arith, add-one, length-set, append-nil, append_assoc, replicate, zero}
+use Rattle.std.proofs.Common.{◌≡◌, ℕ, suc, ◌+◌, ◌<◌, ◌≤◌, cond, ⊎_elim, List, [], ◌∷◌, ◌++◌, length, get_or, slice_set, ℤ, pos, ◌+ℤ◌, ◌-ℤ◌, refl, sym, ◌∙◌, ap, ap₂, subst, arith, add-one, length-set, append-nil, append_assoc, replicate, Some, zero}
 use Rattle.hv_filter_model.specs.OffsetDecision.{Block, difference}
-use Rattle.hv_sao.specs.Decisions.{Counts, edge_key, edge_key_at}
+use Rattle.hv_sao.specs.Decisions.{AreEdgeKeys, Counts, edge_key, edge_key_at}
 use Rattle.std.specs.List.{flat_map, sum_by}
 use Rattle.std.proofs.lemmas.List.Sums.{sum_by-append, sum_by_push}
 use Rattle.std.specs.Int.RustNames.{unsigned_abs}
 use Rattle.std.proofs.lemmas.Int.{ints}
 use Rattle.std.proofs.lemmas.Bool.{cases_eq, cases_lt, eq-eqb, ne_eqb}
-use Rattle.hv_lemmas.proofs.ComparisonLemmas.{lt_below, lt_not_below}
 use Rattle.hv_types.specs.Samples.{sample_at}
-use Rattle.hv_filter_model.specs.SampleAdaptiveOffset.{edgeIdx}
+use Rattle.hv_filter_model.specs.SampleAdaptiveOffset.{edge_of, edgeIdx}
 use Rattle.std.proofs.lemmas.List.{get_or-set_same, get_or-set_other}
 use Rattle.hv_lemmas.specs.Lists.{tabulate}
 use Rattle.hv_lemmas.proofs.ListLemmas.{tabulate_push}
@@ -228,43 +227,78 @@ sum_row f area y next sum v is before here =
     ap₂ (λ a b. a + b) before here
     ∙ sym (ap (sum_by f) (rows_more area y next is) ∙ sum_by-append f (rows_before area y) (row_locations area y area.columns))
 
+pub no_keys : (samples first second keys : List ℕ) → AreEdgeKeys 0 samples first second keys
+no_keys samples first second keys = record {
+  values = λ i below. absurd (omega arith);
+  most = λ i below. absurd (omega arith);
+}
+
+pub fewer_keys : (n fewer : ℕ) (samples first second keys : List ℕ) → AreEdgeKeys n samples first second keys → fewer ≤ n →
+    AreEdgeKeys fewer samples first second keys
+fewer_keys n fewer samples first second keys h least = record {
+  values = λ i below. h.values i (omega arith);
+  most = λ i below. h.most i (omega arith);
+}
+
+-- one key more of a row
+pub keys_more : (n next v : ℕ) (samples first second keys : List ℕ) → AreEdgeKeys n samples first second keys → next ≡ n + 1 → n < length keys →
+    v ≡ edge_key (edge_of (get_or samples n 0) (Some (get_or first n 0)) (Some (get_or second n 0))) (get_or samples n 0) → v ≤ 32 →
+    AreEdgeKeys next samples first second (slice_set keys n v)
+keys_more n next v samples first second keys h is room right most = record {
+  values = λ i below.
+      ⊎_elim
+      (λ here.
+      ap (λ k. get_or (slice_set keys n v) k 0) here ∙ get_or-set_same keys n v 0 room ∙ right
+      ∙ ap (λ k. edge_key (edge_of (get_or samples k 0) (Some (get_or first k 0)) (Some (get_or second k 0))) (get_or samples k 0)) (sym here))
+      (λ other. get_or-set_other keys n i v 0 other ∙ h.values i (omega arith))
+      (cases_eq i n);
+  most = λ i below.
+      ⊎_elim
+      (λ here. omega (arith, ap (λ k. get_or (slice_set keys n v) k 0) here, get_or-set_same keys n v 0 room))
+      (λ other. omega (arith, get_or-set_other keys n i v 0 other, h.most i (omega arith)))
+      (cases_eq i n);
+}
+
+-- a tally behind the first n has changed
+adds_beyond : (n k : ℕ) (key : Location → ℕ) (value : Location → ℤ) (xs : List Location) (old mid : List Tally) (t : Tally) →
+    Adds n key value xs old mid → n ≤ k → Adds n key value xs old (slice_set mid k t)
+adds_beyond n k key value xs old mid t h out = record {
+  size = length-set mid k t ∙ h.size;
+  counts = λ j below.
+      let at : tally_at (slice_set mid k t) j ≡ tally_at mid j = get_or-set_other mid k j t no_tally (λ e. omega arith) in
+      ap (λ s. pos s.count) at ∙ h.counts j below;
+  sums = λ j below.
+      let at : tally_at (slice_set mid k t) j ≡ tally_at mid j = get_or-set_other mid k j t no_tally (λ e. omega arith) in
+      ap (λ s. s.sum) at ∙ h.sums j below;
+}
+
 -- a sample that may have no edge
 pub adds_edge : (key : Location → ℕ) (value : Location → ℤ) (area : Area) (y x next k input sample : ℕ) (old mid new : List Tally) →
-    Adds 32 key value (row_locations area y x) old mid → next ≡ x + 1 → length mid ≡ 32 → key (location_at area x y) ≡ k →
+    Adds 32 key value (row_locations area y x) old mid → next ≡ x + 1 → length mid ≡ 33 → key (location_at area x y) ≡ k →
     value (location_at area x y) ≡ pos input -ℤ pos sample →
-    new ≡ cond (nat_lt k 32) (slice_set mid k (counted (tally_at mid k) input sample)) mid → Adds 32 key value (row_locations area y next) old new
+    new ≡ slice_set mid k (counted (tally_at mid k) input sample) → Adds 32 key value (row_locations area y next) old new
 adds_edge key value area y x next k input sample old mid new h is room same same_v made =
-    ⊎_elim
+    let t : Tally = counted (tally_at mid k) input sample in
+    subst (λ ts. Adds 32 key value (row_locations area y next) old ts) (sym made)
+    (⊎_elim
     (λ less.
-    subst (λ ts. Adds 32 key value (row_locations area y next) old ts)
-    (sym (made ∙ ap (λ b. cond b (slice_set mid k (counted (tally_at mid k) input sample)) mid) (lt_below k 32 less)))
-    (adds_sample 32 key value area y x next k (pos input -ℤ pos sample) old mid (counted (tally_at mid k) input sample) h is less (omega arith)
-    same same_v refl refl))
+    adds_sample 32 key value area y x next k (pos input -ℤ pos sample) old mid t h is less (omega arith) same same_v refl refl)
     (λ more.
-    subst (λ ts. Adds 32 key value (row_locations area y next) old ts)
-    (sym (made ∙ ap (λ b. cond b (slice_set mid k (counted (tally_at mid k) input sample)) mid) (lt_not_below k 32 more)))
+    adds_beyond 32 k key value (row_locations area y next) old mid t
     (subst (λ n. Adds 32 key value (row_locations area y n) old mid) (sym is)
     (adds_rest 32 key value area y x 1 old mid h
-    (λ u least most. omega (arith, ap (λ v. key (location_at area v y)) (only u least most), same, more)))))
-    (cases_lt k 32)
+    (λ u least most. omega (arith, ap (λ v. key (location_at area v y)) (only u least most), same, more)))) more)
+    (cases_lt k 32))
   where
     only : (u : ℕ) → x ≤ u → u < x + 1 → u ≡ x
     only u least most = omega arith
 
-pub at_most_edge : (m next k input sample : ℕ) (mid new : List Tally) → AreAtMost 32 m mid → next ≡ m + 1 → length mid ≡ 32 → input < 256 →
-    sample < 256 → new ≡ cond (nat_lt k 32) (slice_set mid k (counted (tally_at mid k) input sample)) mid → AreAtMost 32 next new
-at_most_edge m next k input sample mid new h is room byte byte₂ made =
-    ⊎_elim
-    (λ less.
-    subst (λ ts. AreAtMost 32 next ts)
-    (sym (made ∙ ap (λ b. cond b (slice_set mid k (counted (tally_at mid k) input sample)) mid) (lt_below k 32 less)))
-    (at_most_one 32 m next k (pos input -ℤ pos sample) mid (counted (tally_at mid k) input sample) h less (omega arith) is
-    (omega (arith, ints)) refl refl))
-    (λ more.
-    subst (λ ts. AreAtMost 32 next ts)
-    (sym (made ∙ ap (λ b. cond b (slice_set mid k (counted (tally_at mid k) input sample)) mid) (lt_not_below k 32 more)))
-    (at_most_more 32 m next mid h (omega arith)))
-    (cases_lt k 32)
+pub at_most_edge : (m next k input sample : ℕ) (mid new : List Tally) → AreAtMost 33 m mid → next ≡ m + 1 → length mid ≡ 33 → k ≤ 32 → input < 256 →
+    sample < 256 → new ≡ slice_set mid k (counted (tally_at mid k) input sample) → AreAtMost 33 next new
+at_most_edge m next k input sample mid new h is room key byte byte₂ made =
+    subst (λ ts. AreAtMost 33 next ts) (sym made)
+    (at_most_one 33 m next k (pos input -ℤ pos sample) mid (counted (tally_at mid k) input sample) h (omega arith) (omega arith) is
+    (omega (arith, ints)) refl refl)
 
 pub uncounted : (class : ℕ) (b : Block) (a : Location) → edgeIdx class b.deblocked a.x a.y ≡ 0 → 32 ≤ edge_key_at class b a
 uncounted class b a none = omega (arith, ap (λ k. edge_key k (sample_at b.deblocked a.x a.y)) none)

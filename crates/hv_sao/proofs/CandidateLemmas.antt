@@ -1,7 +1,9 @@
 -- Candidates from four offsets.
-use Rattle.std.proofs.Common.{◌≡◌, ℕ, zero, suc, ◌+◌, ◌*◌, ◌<◌, ◌≤◌, Bool, false, cond, nat_eq, List, [], ◌∷◌, length, map, ℤ, pos, negsuc, ◌+ℤ◌, refl, sym, ◌∙◌, ap, ap₂, arith}
+use Rattle.std.proofs.Common.{◌≡◌, ℕ, zero, suc, ◌+◌, ◌*◌, ◌<◌, ◌≤◌, Bool, false, cond, nat_eq, ⊎_elim, List, [], ◌∷◌, ◌^◌, length, map, slice_set, ℤ, pos, negsuc, ◌+ℤ◌, refl, sym, ◌∙◌, ap, ap₂, subst, arith}
 use Rattle.std.specs.Int.RustNames.{unsigned_abs}
+use Rattle.std.proofs.lemmas.Bool.{cases_eq}
 use Rattle.std.proofs.lemmas.Int.{ints, clamps}
+use Rattle.std.proofs.lemmas.List.{get_or-set_same, get_or-set_other}
 use Rattle.hv_lemmas.specs.Lists.{tabulate}
 use Rattle.hv_lemmas.specs.Clipping.{clip3}
 use Rattle.hv_plan.specs.declared.offsets.SaoKind.{SaoKind}
@@ -13,7 +15,7 @@ use Rattle.hv_filter_model.specs.OffsetBins.{own_bins}
 use Rattle.hv_filter_model.specs.OffsetDecision.{Block, difference, samples_of, sum_of, mean, offset, candidate}
 use Rattle.hv_sao.specs.declared.offset.Offset.{Offset}
 use Rattle.hv_sao.specs.declared.candidate.Candidate.{Candidate}
-use Rattle.hv_sao.specs.Decisions.{IsOffset, IsCandidate, IsMeasured, IsCounted, IsCountedByEdge, growth_at, group_count, group_sum, group_growth, offset_at_index, growth_at_index, component_from}
+use Rattle.hv_sao.specs.Decisions.{IsOffset, IsCandidate, IsMeasured, IsCounted, IsCountedByEdge, HasBandOffsets, AreSmallTo, growth_at, group_count, group_sum, group_growth, offset_at_index, growth_at_index, component_from}
 use Rattle.hv_sao.specs.declared.tally.Tally.{Tally}
 use Rattle.hv_sao.specs.Tallies.{chosen}
 use Rattle.hv_sao.proofs.GrowthLemmas.{errors_by_category}
@@ -79,6 +81,50 @@ band_offset_at b position i at base squares tallies value growth below last e₁
     band_offset_is b position i tallies value growth below (omega arith) h.measured.bytes h.counts
     (is ∙ ap (λ k. clip3 (negsuc 6) (pos 7) (mean (group_sum tallies k) (unsigned_abs (group_count tallies k)))) e₁)
     (grows ∙ ap₂ (λ k v. group_growth tallies k v value) e₁ e₂)
+
+abbrev Offset-none : Offset
+Offset-none = record { value = pos 0; growth = pos 0 }
+
+pub no_band_offsets : (b : Block) (offsets : List Offset) → HasBandOffsets 0 b offsets
+no_band_offsets b offsets = record { each = λ position i last below inside. absurd (omega arith) }
+
+pub band_offsets_more : (n next : ℕ) (b : Block) (offsets : List Offset) (o : Offset) → n < length offsets → next ≡ n + 1 →
+    HasBandOffsets n b offsets →
+    ((position i : ℕ) → position ≤ 28 → i < 4 → position + i ≡ n → IsOffset b (Band position) i o.value o.growth) →
+    HasBandOffsets next b (slice_set offsets n o)
+band_offsets_more n next b offsets o room is h here = record {
+  each = λ position i last below inside.
+      ⊎_elim
+      (λ same.
+      subst (λ (e : Offset). IsOffset b (Band position) i e.value e.growth)
+      (sym (ap (λ k. offset_at_index (slice_set offsets n o) k) same ∙ get_or-set_same offsets n o Offset-none room))
+      (here position i last below same))
+      (λ other.
+      subst (λ (e : Offset). IsOffset b (Band position) i e.value e.growth)
+      (sym (get_or-set_other offsets n (position + i) o Offset-none other))
+      (h.each position i last below (omega arith)))
+      (cases_eq (position + i) n);
+}
+
+pub band_offset_of : (b : Block) (offsets : List Offset) (position i k : ℕ) → HasBandOffsets 32 b offsets → position ≤ 28 → i < 4 →
+    k ≡ position + i → IsOffset b (Band position) i (offset_at_index offsets k).value (offset_at_index offsets k).growth
+band_offset_of b offsets position i k h last below is =
+    subst (λ n. IsOffset b (Band position) i (offset_at_index offsets n).value (offset_at_index offsets n).growth) (sym is)
+    (h.each position i last below (omega arith))
+
+pub small_more : (n next : ℕ) (offsets : List Offset) (o : Offset) → n < length offsets → next ≡ n + 1 → AreSmallTo n offsets →
+    unsigned_abs o.growth ≤ 2 ^ 27 → AreSmallTo next (slice_set offsets n o)
+small_more n next offsets o room is h small = record {
+  small = λ k below.
+      ⊎_elim
+      (λ same.
+      subst (λ (e : Offset). unsigned_abs e.growth ≤ 2 ^ 27)
+      (sym (ap (λ j. offset_at_index (slice_set offsets n o) j) same ∙ get_or-set_same offsets n o Offset-none room)) small)
+      (λ other.
+      subst (λ (e : Offset). unsigned_abs e.growth ≤ 2 ^ 27)
+      (sym (get_or-set_other offsets n k o Offset-none other)) (h.small k (omega arith)))
+      (cases_eq k n);
+}
 
 pub low_edge_at : (class : ℕ) (b : Block) (i at squares : ℕ) (tallies : List Tally) (value growth : ℤ) → i < 2 → at ≡ 8 * i →
     IsCountedByEdge class b tallies squares →

@@ -4,7 +4,7 @@ use Rattle.hv_lemmas.specs.Lists.{tabulate}
 use Rattle.hv_lemmas.proofs.ListLemmas.{tabulate_push}
 use Rattle.hv_plan.specs.declared.offsets.SaoKind.{SaoKind}
 use Rattle.hv_plan.specs.declared.offsets.SaoComponent.{SaoComponent}
-use Rattle.hv_filter_model.specs.Costs.{cost, cheaper, first_least}
+use Rattle.hv_filter_model.specs.Costs.{cost, cheaper}
 use Rattle.hv_filter_model.proofs.CostLemmas.{first_least_push}
 use Rattle.hv_filter_model.specs.OffsetBins.{type_bins, class_bins, own_bins}
 use Rattle.hv_filter_model.specs.OffsetDecision.{Block, Chroma, candidate, squared_errors, chroma_cost}

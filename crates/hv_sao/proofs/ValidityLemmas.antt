@@ -1,5 +1,5 @@
 -- The choice of a block's offsets is valid.
-use Rattle.std.proofs.Common.{◌≡◌, ℕ, zero, suc, ◌+◌, ◌<◌, Bool, true, false, cond, nat_lt, List, [], ◌∷◌, ◌++◌, pos, refl, sym, subst, arith}
+use Rattle.std.proofs.Common.{◌≡◌, ℕ, ◌+◌, ◌∷◌, ◌++◌, pos, refl, sym, subst, arith}
 use Rattle.hv_lemmas.specs.Lists.{tabulate}
 use Rattle.hv_lemmas.proofs.ListLemmas.{get_or-tabulate}
 use Rattle.hv_plan.specs.declared.offsets.SaoKind.{SaoKind}

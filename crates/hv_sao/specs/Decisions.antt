@@ -1,12 +1,14 @@
 -- The choice of a block's offsets from counts and sums of its samples.
-use Rattle.std.specs.Prelude.{◌≡◌, ℕ, ◌+◌, ◌-◌, ◌*◌, ◌<◌, cond, nat_eq, nat_lt, List, [], ◌∷◌, slice_index_or, max, min, ℤ, pos, ◌+ℤ◌, ◌-ℤ◌, ◌*ℤ◌}
+use Rattle.std.specs.Prelude.{◌≡◌, ℕ, ◌+◌, ◌-◌, ◌*◌, ◌<◌, ◌≤◌, ◌^◌, cond, nat_eq, nat_lt, List, [], ◌∷◌, slice_index_or, max, min, Some, ℤ, pos, ◌+ℤ◌, ◌-ℤ◌, ◌*ℤ◌}
 use Rattle.std.specs.Int.{abs_diff}
+use Rattle.std.specs.Int.RustNames.{unsigned_abs}
 use Rattle.hv_lemmas.specs.Clipping.{clip1}
 use Rattle.hv_types.specs.Samples.{Plane, HasByteSamples, sample_at}
 use Rattle.hv_plan.specs.declared.offsets.SaoKind.{SaoKind}
+use Rattle.hv_plan.specs.declared.offsets.SaoKind.TheVariants.{Band}
 use Rattle.hv_plan.specs.declared.offsets.SaoComponent.{SaoComponent}
 use Rattle.hv_filter_model.specs.Blocks.{Location, locations}
-use Rattle.hv_filter_model.specs.SampleAdaptiveOffset.{category, edgeIdx, sao_sample}
+use Rattle.hv_filter_model.specs.SampleAdaptiveOffset.{category, edge_of, edgeIdx, sao_sample}
 use Rattle.hv_filter_model.specs.OffsetDecision.{Block, difference, offset, candidate, squared_errors}
 use Rattle.hv_sao.specs.declared.block.Area.{Area}
 use Rattle.hv_sao.specs.Areas.{area_of}
@@ -37,6 +39,16 @@ edge_key category sample =
 abbrev pub edge_key_at : ℕ → Block → Location → ℕ
 edge_key_at class b at =
     edge_key (edgeIdx class b.deblocked at.x at.y) (sample_at b.deblocked at.x at.y)
+
+-- The first n samples of a row, beside their two neighbours, have these keys.
+pub record AreEdgeKeys (n : ℕ) (samples first second keys : List ℕ) : Type 0 where
+  pub values : (i : ℕ) → i < n →
+      slice_index_or keys i 0 ≡
+      edge_key
+      (edge_of (slice_index_or samples i 0) (Some (slice_index_or first i 0))
+      (Some (slice_index_or second i 0)))
+      (slice_index_or samples i 0)
+  pub most : (i : ℕ) → i < n → slice_index_or keys i 0 ≤ 32
 
 -- the first n tallies count the samples of a block by their keys
 pub record Counts (n : ℕ) (key : Location → ℕ) (b : Block) (tallies : List Tally) : Type 0 where
@@ -133,6 +145,17 @@ offset_at_index offsets i = slice_index_or offsets i (record { value = pos 0; gr
 
 abbrev pub growth_at_index : List Offset → ℕ → ℤ
 growth_at_index offsets i = (offset_at_index offsets i).growth
+
+-- the first n of all bands' offsets are those of a block
+pub record HasBandOffsets (n : ℕ) (b : Block) (offsets : List Offset) : Type 0 where
+  pub each : (position i : ℕ) → position ≤ 28 → i < 4 → position + i < n →
+      IsOffset b (Band position) i
+      (offset_at_index offsets (position + i)).value
+      (growth_at_index offsets (position + i))
+
+-- the first n of offsets let the squared differences grow so far at most
+pub record AreSmallTo (n : ℕ) (offsets : List Offset) : Type 0 where
+  pub small : (k : ℕ) → k < n → unsigned_abs (growth_at_index offsets k) ≤ 2 ^ 27
 
 abbrev pub component_from : SaoKind → List Offset → SaoComponent
 component_from kind offsets = record {

@@ -6,7 +6,7 @@ ghost use Rattle.hv_plan.specs.declared.offsets.SaoKind.TheVariants.{Off, Band, 
 ghost use Rattle.hv_filter_model.specs.OffsetBins.{offset_bins, own_bins};
 ghost use Rattle.hv_filter_model.specs.OffsetDecision.{Block};
 ghost use Rattle.hv_sao.specs.Tallies.{AreAtMost};
-ghost use Rattle.hv_sao.specs.Decisions.{IsOffset, IsCandidate, IsMeasured, IsCounted, IsCountedByEdge, growth_at_index, component_from};
+ghost use Rattle.hv_sao.specs.Decisions.{IsOffset, IsCandidate, IsMeasured, IsCounted, IsCountedByEdge, HasBandOffsets, AreSmallTo, growth_at_index, component_from};
 
 use crate::candidate::Candidate;
 use crate::offset::{Offset, offset_from, plus};
@@ -111,50 +111,60 @@ pub(crate) fn off_candidate(squares: u32) -> Candidate
     requires { squares ≤ 65025 * 4096 }
     ensures { (b : Block) → IsMeasured b squares → IsCandidate b Off result }
 {
-    let none = Offset {
-        value: 0,
-        growth: 0,
-    };
-    from_offsets(SaoKind::Off, [none; 4], squares)
+    from_offsets(SaoKind::Off, [Offset::NONE; 4], squares)
 }
 
-/// The offset of band `index` of the four from `position` on.
-fn band_offset(tallies: &[Tally], position: u8, index: u8) -> Offset
-    requires position { position ≤ 28 }
-    requires index { index < 4 }
+/// The offset of a band of 8 values.
+fn band_offset(tallies: &[Tally], band: u8) -> Offset
+    requires band { band < 32 }
+    requires room { length tallies.now ≡ 256 }
+    requires few { AreAtMost 256 4096 tallies.now }
+    ensures value { (b : Block) (squares position i : ℕ) → IsCounted b tallies.now squares →
+        position ≤ 28 → i < 4 → position + i ≡ band →
+        IsOffset b (Band position) i result.value result.growth }
+    ensures small { unsigned_abs result.growth ≤ 2 ^ 27 }
+{
+    offset_from(tallies, usize::from(8 * band), 8 * band, -7, 7)
+}
+
+/// The offset of each band.
+pub(crate) fn band_offsets(tallies: &[Tally]) -> [Offset; 32]
     requires room { length tallies.now ≡ 256 }
     requires few { AreAtMost 256 4096 tallies.now }
     ensures value { (b : Block) (squares : ℕ) → IsCounted b tallies.now squares →
-        IsOffset b (Band position) index result.value result.growth }
-    ensures small { unsigned_abs result.growth ≤ 2 ^ 27 }
+        HasBandOffsets 32 b result }
+    ensures small { AreSmallTo 32 result }
 {
-    let base = 8 * (position + index);
-    offset_from(tallies, usize::from(base), base, -7, 7)
+    let mut offsets = [Offset::NONE; 32];
+    for band in 0..32u8 {
+        offsets[usize::from(band)] = band_offset(tallies, band);
+    }
+    offsets
 }
 
-/// The band from a position on, from counts by values.
-pub(crate) fn band_candidate(tallies: &[Tally], position: u8, squares: u32) -> Candidate
+/// The band from a position on, from the offsets of all bands.
+pub(crate) fn band_candidate(offsets: &[Offset; 32], position: u8, squares: u32) -> Candidate
     requires position { position ≤ 28 }
-    requires room { length tallies.now ≡ 256 }
-    requires few { AreAtMost 256 4096 tallies.now }
+    requires small { AreSmallTo 32 offsets.now }
     requires squares { squares ≤ 65025 * 4096 }
-    ensures { (b : Block) → IsCounted b tallies.now squares →
+    ensures { (b : Block) → HasBandOffsets 32 b offsets.now → IsMeasured b squares →
         IsCandidate b (Band position) result }
 {
-    let offsets = [
-        band_offset(tallies, position, 0),
-        band_offset(tallies, position, 1),
-        band_offset(tallies, position, 2),
-        band_offset(tallies, position, 3),
+    let at = usize::from(position);
+    let four = [
+        offsets[at],
+        offsets[at + 1],
+        offsets[at + 2],
+        offsets[at + 3],
     ];
-    from_offsets(SaoKind::Band { position }, offsets, squares)
+    from_offsets(SaoKind::Band { position }, four, squares)
 }
 
 /// The offset of edge `index`, of the four from a local minimum to a local maximum.
 fn edge_offset(tallies: &[Tally], index: u8) -> Offset
     requires index { index < 4 }
-    requires room { length tallies.now ≡ 32 }
-    requires few { AreAtMost 32 4096 tallies.now }
+    requires room { length tallies.now ≡ 33 }
+    requires few { AreAtMost 33 4096 tallies.now }
     ensures value { (class : ℕ) (b : Block) (squares : ℕ) →
         IsCountedByEdge class b tallies.now squares →
         IsOffset b (Edge class) index result.value result.growth }
@@ -170,8 +180,8 @@ fn edge_offset(tallies: &[Tally], index: u8) -> Offset
 
 /// The edges of a class, from counts by edges.
 pub(crate) fn edge_candidate(tallies: &[Tally], class: u8, squares: u32) -> Candidate
-    requires room { length tallies.now ≡ 32 }
-    requires few { AreAtMost 32 4096 tallies.now }
+    requires room { length tallies.now ≡ 33 }
+    requires few { AreAtMost 33 4096 tallies.now }
     requires squares { squares ≤ 65025 * 4096 }
     ensures { (b : Block) → IsCountedByEdge class b tallies.now squares →
         IsCandidate b (Edge class) result }

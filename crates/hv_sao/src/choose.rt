@@ -10,7 +10,7 @@ ghost use Rattle.hv_sao.specs.Prices.{IsMade, pair_of};
 
 use crate::block::Block;
 use crate::candidate::Candidate;
-use crate::candidates::{band_candidate, edge_candidate, off_candidate};
+use crate::candidates::{band_candidate, band_offsets, edge_candidate, off_candidate};
 use crate::price::{PricedPair, cheaper, cheaper_pair, price_alone, price_chroma, price_luma};
 use crate::sides::{CHROMA_SIDE, LUMA_SIDE};
 use crate::tallies::{squared_differences, tally_edges, tally_values};
@@ -25,12 +25,12 @@ fn choose_luma(block: Block<'_>, qp: u8) -> SaoComponent
         (block_of block.entry.deblocked.now block.entry.input.now block.entry.area) }
 {
     let squares = squared_differences(block);
-    let values = tally_values(block);
+    let bands = band_offsets(&tally_values(block));
     let mut best = price_luma(qp, off_candidate(squares));
     'bands: for position in 0..29u8 {
         best = cheaper(
             best,
-            price_luma(qp, band_candidate(&values, position, squares)),
+            price_luma(qp, band_candidate(&bands, position, squares)),
         );
     }
     'edges: for class in 0..4u8 {
@@ -55,12 +55,12 @@ fn best_band(block: Block<'_>, qp: u8, squares: u32) -> Candidate
     ensures best { result.component ≡ band_choice qp
         (block_of block.entry.deblocked.now block.entry.input.now block.entry.area) }
 {
-    let values = tally_values(block);
-    let mut best = price_alone(qp, band_candidate(&values, 0, squares));
+    let bands = band_offsets(&tally_values(block));
+    let mut best = price_alone(qp, band_candidate(&bands, 0, squares));
     'bands: for i in 0..28u8 {
         best = cheaper(
             best,
-            price_alone(qp, band_candidate(&values, i + 1, squares)),
+            price_alone(qp, band_candidate(&bands, i + 1, squares)),
         );
     }
     best.candidate

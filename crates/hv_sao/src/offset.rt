@@ -18,6 +18,14 @@ pub(crate) struct Offset {
     pub(crate) growth: i32,
 }
 
+impl Offset {
+    /// Nothing changes.
+    pub(crate) const NONE: Offset = Offset {
+        value: 0,
+        growth: 0,
+    };
+}
+
 /// The mean of numbers, rounded to the nearest, a half away from 0; 0 of none.
 #[inline(always)]
 fn mean(sum: i32, count: u32) -> i32

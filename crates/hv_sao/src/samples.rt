@@ -1,6 +1,6 @@
 //! Single samples: their categories, and what they are with an offset.
 
-ghost use Rattle.std.specs.Prelude.{◌≡◌, ◌≤◌, ◌<◌, ◌/◌, Some, pos, ◌+ℤ◌};
+ghost use Rattle.std.specs.Prelude.{◌≡◌, ◌≤◌, ◌<◌, ◌/◌, ◌∷◌, [], slice_index_or, Some, pos, ◌+ℤ◌};
 ghost use Rattle.hv_lemmas.specs.Clipping.{clip1};
 ghost use Rattle.hv_filter_model.specs.SampleAdaptiveOffset.{bandTable, compared, edge_of, SaoOffsetVal};
 
@@ -29,6 +29,23 @@ fn compared(a: u8, b: u8) -> u8
     }
 }
 
+/// The edge that two comparisons give, by the sum of their signs and 2. Like the other functions
+/// here it is written so that a compiler can do it for many samples at once.
+#[inline(always)]
+fn edge_of_sum(sum: u8) -> u8
+    requires { sum ≤ 4 }
+    ensures value { result ≡ slice_index_or (1 ∷ 2 ∷ 0 ∷ 3 ∷ 4 ∷ []) sum 0 }
+    ensures most { result ≤ 4 }
+{
+    if sum == 2 {
+        0
+    } else if sum < 2 {
+        sum + 1
+    } else {
+        sum
+    }
+}
+
 /// Which of the four edges a sample is between its two neighbours, counted from 1, or 0 for none
 /// (`edgeIdx`).
 #[inline(always)]
@@ -36,7 +53,7 @@ pub(crate) fn edge_category(sample: u8, first: u8, second: u8) -> u8
     ensures value { result ≡ edge_of sample (Some first) (Some second) }
     ensures most { result ≤ 4 }
 {
-    [1, 2, 0, 3, 4][usize::from(compared(sample, first) + compared(sample, second))]
+    edge_of_sum(compared(sample, first) + compared(sample, second))
 }
 
 /// In which of the four bands from `position` on a sample lies, counted from 1, or 0 for none
@@ -57,10 +74,17 @@ fn offset_of(component: SaoComponent, category: u8) -> i8
     requires { category ≤ 4 }
     ensures { result ≡ SaoOffsetVal component category }
 {
+    let [first, second, third, fourth] = component.offsets;
     if category == 0 {
         0
+    } else if category == 1 {
+        first
+    } else if category == 2 {
+        second
+    } else if category == 3 {
+        third
     } else {
-        component.offsets[usize::from(category) - 1]
+        fourth
     }
 }
 

@@ -1,17 +1,20 @@
 //! The counts and sums of a block's samples.
 
-ghost use Rattle.std.specs.Prelude.{◌≡◌, ◌+◌, ◌*◌, ◌<◌, ◌≤◌, cond, nat_lt, length, slice_set};
+ghost use Rattle.std.specs.Prelude.{◌≡◌, ◌+◌, ◌*◌, ◌<◌, ◌≤◌, length, slice_set};
 ghost use Rattle.std.specs.List.{sum_by};
 ghost use Rattle.std.specs.Int.{abs_diff};
 ghost use Rattle.hv_filter_model.specs.Blocks.{row_locations, locations};
 ghost use Rattle.hv_filter_model.specs.OffsetDecision.{difference};
 ghost use Rattle.hv_sao.specs.Tallies.{Adds, AreAtMost, counted, tally_at};
-ghost use Rattle.hv_sao.specs.Decisions.{block_of, value_key, edge_key, edge_key_at, input_error, Counts};
+ghost use Rattle.hv_sao.specs.Decisions.{block_of, value_key, edge_key, edge_key_at, input_error, Counts, AreEdgeKeys};
 
 use crate::block::Block;
-use crate::edges::{edge_row, part_of_row};
+use crate::edges::{EdgeRow, edge_row, part_of_row};
 use crate::samples::edge_category;
 use crate::tally::Tally;
+
+/// How many samples a compiler does at once.
+const VECTOR: usize = 16;
 
 /// Counts the samples of row `y` of a block by their values.
 fn add_row_of_values(block: Block<'_>, y: u32, tallies: &mut [Tally])
@@ -49,7 +52,8 @@ pub(crate) fn tally_values(block: Block<'_>) -> [Tally; 256]
 #[inline(always)]
 fn edge_key(category: u8, sample: u8) -> u8
     requires { category ≤ 4 }
-    ensures { result ≡ edge_key category sample }
+    ensures value { result ≡ edge_key category sample }
+    ensures most { result ≤ 32 }
 {
     if category == 0 {
         32
@@ -60,53 +64,88 @@ fn edge_key(category: u8, sample: u8) -> u8
     }
 }
 
-/// Counts a sample by its edge, where it has one.
+/// The keys of the samples of a row from place `from` on, before place `to`, beside their two
+/// neighbours. The keys before are there.
 #[inline(always)]
-fn add_edge(tallies: &mut [Tally], category: u8, input: u8, sample: u8)
-    requires room { length tallies.old ≡ 32 }
-    requires category { category ≤ 4 }
-    requires few { AreAtMost 32 8192 tallies.old }
-    ensures { let key = edge_key category sample in tallies.new ≡
-        cond (nat_lt key 32)
-        (slice_set tallies.old key (counted (tally_at tallies.old key) input sample))
-        tallies.old }
+fn put_edge_keys(row: EdgeRow<'_>, from: usize, to: usize, keys: &mut [u8])
+    requires firsts { length row.first.now ≡ length row.samples.now }
+    requires seconds { length row.second.now ≡ length row.samples.now }
+    requires order { from ≤ to }
+    requires end { to ≤ length row.samples.now }
+    requires room { to ≤ length keys.old }
+    requires before { AreEdgeKeys from row.samples.now row.first.now row.second.now keys.old }
+    ensures { AreEdgeKeys to row.entry.samples.now row.entry.first.now row.entry.second.now
+        keys.new }
 {
-    let key = usize::from(edge_key(category, sample));
-    if key < 32 {
-        tallies[key] = tallies[key].with(input, sample);
+    for i in from..to {
+        let sample = row.samples[i];
+        let category = edge_category(sample, row.first[i], row.second[i]);
+        keys[i] = edge_key(category, sample);
     }
 }
 
-/// Counts the samples of row `y` of a block by their edges of a class.
+/// The keys of the samples of a row, beside their two neighbours. So many samples are done at once
+/// as a vector has; of a row that isn't a multiple of these, the last ones are done again.
+fn put_row_of_keys(row: EdgeRow<'_>, keys: &mut [u8])
+    requires firsts { length row.first.now ≡ length row.samples.now }
+    requires seconds { length row.second.now ≡ length row.samples.now }
+    requires room { length row.samples.now ≤ length keys.old }
+    ensures { AreEdgeKeys (length row.entry.samples.now)
+        row.entry.samples.now row.entry.first.now row.entry.second.now keys.new }
+{
+    let count = row.samples.len();
+    let whole = count / VECTOR * VECTOR;
+    put_edge_keys(row, 0, whole, keys);
+    if whole < count {
+        put_edge_keys(row, count.saturating_sub(VECTOR), count, keys);
+    }
+}
+
+/// Counts a sample by its key.
+#[inline(always)]
+fn add_edge(tallies: &mut [Tally], key: u8, input: u8, sample: u8)
+    requires room { length tallies.old ≡ 33 }
+    requires key { key ≤ 32 }
+    requires few { AreAtMost 33 8192 tallies.old }
+    ensures { tallies.new ≡
+        slice_set tallies.old key (counted (tally_at tallies.old key) input sample) }
+{
+    let key = usize::from(key);
+    tallies[key] = tallies[key].with(input, sample);
+}
+
+/// Counts the samples of row `y` of a block by their edges of a class. What the last tally counts
+/// has no edge.
 fn add_row_of_edges(block: Block<'_>, class: u8, y: u32, tallies: &mut [Tally])
     requires class { class < 4 }
     requires down { y < block.area.rows }
-    requires room { length tallies.old ≡ 32 }
-    requires few { AreAtMost 32 (64 * y) tallies.old }
+    requires room { length tallies.old ≡ 33 }
+    requires few { AreAtMost 33 (64 * y) tallies.old }
     ensures added { let b = block_of block.entry.deblocked.now block.entry.input.now block.entry.area
         in Adds 32 (edge_key_at class b) (difference b) (row_locations b.area y b.area.columns)
         tallies.old tallies.new }
-    ensures few { AreAtMost 32 (64 * (y + 1)) tallies.new }
+    ensures few { AreAtMost 33 (64 * (y + 1)) tallies.new }
 {
     let area = block.area;
     let end = area.left + area.columns;
     let row = edge_row(block.deblocked, class, area.top + y, area.left, end);
     let count = row.samples.len() as u32;
     let inputs = part_of_row(block.input, area.top + y, row.start, count);
+    let mut keys = [0u8; 64];
+    put_row_of_keys(row, &mut keys);
     for i in 0..row.samples.len() {
-        let category = edge_category(row.samples[i], row.first[i], row.second[i]);
-        add_edge(tallies, category, inputs[i], row.samples[i]);
+        add_edge(tallies, keys[i], inputs[i], row.samples[i]);
     }
 }
 
 /// Counts the samples of a block by their edges of a class.
-pub(crate) fn tally_edges(block: Block<'_>, class: u8) -> [Tally; 32]
+pub(crate) fn tally_edges(block: Block<'_>, class: u8) -> [Tally; 33]
     requires { class < 4 }
     ensures counts { let b = block_of block.entry.deblocked.now block.entry.input.now
         block.entry.area in Counts 32 (edge_key_at class b) b result }
-    ensures few { AreAtMost 32 4096 result }
+    ensures few { AreAtMost 33 4096 result }
 {
-    let mut tallies = [Tally::NONE; 32];
+    let mut tallies = [Tally::NONE; 33];
     for y in 0..block.area.rows {
         add_row_of_edges(block, class, y, &mut tallies);
     }

@@ -24,13 +24,13 @@ pub bands-preserved : goal.bands-preserved
 bands-preserved c =
     let b : Block = block_of c.args.block.deblocked.now c.args.block.input.now c.args.block.area in
     let F : ℕ → SaoComponent = λ p. candidate b (Band p) in
-    let counted : IsCounted b c.tally_values-values.result c.squared_differences-squares.result =
+    let counted : IsCounted b c.tally_values.result c.squared_differences-squares.result =
     record {
-      counts = c.tally_values-values.ensures.counts;
+      counts = c.tally_values.ensures.counts;
       measured = record { bytes = c.args.block.inside.bytes; squares = c.squared_differences-squares.ensures.value };
     } in
     let priced : IsPricedOf b (luma_cost c.args.qp b) (F c.bands.position) c.price_luma.result =
-    luma_priced c.args.qp b (Band c.bands.position) c.band_candidate.result c.price_luma.result (c.band_candidate.ensures b counted)
+    luma_priced c.args.qp b (Band c.bands.position) c.band_candidate.result c.price_luma.result (c.band_candidate.ensures b (c.band_offsets-bands.ensures.value b c.squared_differences-squares.result counted) counted.measured)
     c.price_luma.ensures.candidate c.price_luma.ensures.cost in
     best_more b (luma_cost c.args.qp b) (candidate b Off) (tabulate c.bands.position F) (tabulate (c.bands.position + 1) F) (F c.bands.position)
     c.bands.best c.price_luma.result c.cheaper-best.result c.bands.invariant priced.component priced.cost priced.made c.cheaper-best.ensures

@@ -1,8 +1,8 @@
-use Rattle.std.proofs.Common.{arith, ◌<◌, ◌+◌, ◌-◌, ◌*◌, ◌≡◌, ◌∙◌, ◌-ℤ◌, ap, ap₂, pos, subst, sym, ℕ, get_or}
+use Rattle.std.proofs.Common.{arith, ◌<◌, ◌+◌, ◌-◌, ◌*◌, ◌≡◌, ◌∙◌, ◌-ℤ◌, ap, ap₂, pos, subst, sym, ℕ, Some, get_or}
 use Rattle.hv_types.specs.Samples.{sample_at}
 use Rattle.hv_types.proofs.SampleLemmas.{byte_at}
 use Rattle.hv_filter_model.specs.Blocks.{row_locations}
-use Rattle.hv_filter_model.specs.SampleAdaptiveOffset.{edgeIdx}
+use Rattle.hv_filter_model.specs.SampleAdaptiveOffset.{edge_of, edgeIdx}
 use Rattle.hv_filter_model.specs.OffsetDecision.{Block, difference}
 use Rattle.hv_sao.specs.Tallies.{Adds}
 use Rattle.hv_sao.specs.Decisions.{block_of, edge_key, edge_key_at}
@@ -20,7 +20,7 @@ loop-i-init c =
           (adds_nothing 32 (edge_key_at c.args.class b) (difference b) b.area c.args.y c.args.tallies.now)
           (λ x least most. uncounted c.args.class b (location_at b.area x c.args.y)
           (c.edge_row-row.ensures.before (c.args.block.area.left + x) (omega arith) (omega arith))));
-      few = at_most_more 32 (64 * c.args.y) (64 * c.args.y + (lead + 0)) c.args.tallies.now c.requires.few (omega arith);
+      few = at_most_more 33 (64 * c.args.y) (64 * c.args.y + (lead + 0)) c.args.tallies.now c.requires.few (omega arith);
     }
 
 pub loop-i-preserved : goal.loop-i-preserved
@@ -35,19 +35,26 @@ loop-i-preserved c =
     c.edge_row-row.ensures.values i (omega arith) ∙ ap (λ x. sample_at b.deblocked x row) place in
     let input : get_or c.part_of_row-inputs.result.now i 0 ≡ sample_at b.input (c.args.block.area.left + (lead + i)) row =
     c.part_of_row-inputs.ensures.samples i (omega (arith, c.part_of_row-inputs.ensures.count)) ∙ ap (λ x. sample_at b.input x row) place in
-    let category : edgeIdx c.args.class b.deblocked (c.args.block.area.left + (lead + i)) row ≡ c.edge_category-category.result =
-    ap (λ x. edgeIdx c.args.class b.deblocked x row) (sym place) ∙ c.edge_row-row.ensures.edges i (omega arith) ∙ sym c.edge_category-category.ensures.value in
+    let k : ℕ = get_or c.put_row_of_keys.new.keys i 0 in
+    let edge : edgeIdx c.args.class b.deblocked (c.args.block.area.left + (lead + i)) row ≡
+    edge_of s (Some (get_or c.edge_row-row.result.first.now i 0)) (Some (get_or c.edge_row-row.result.second.now i 0)) =
+    ap (λ x. edgeIdx c.args.class b.deblocked x row) (sym place) ∙ c.edge_row-row.ensures.edges i (omega arith) in
+    let key : edge_key_at c.args.class b (location_at b.area (lead + i) c.args.y) ≡ k =
+    ap₂ (λ e v. edge_key e v) edge (sym value) ∙ sym (c.put_row_of_keys.ensures.values i (omega arith)) in
     record {
       added = adds_edge (edge_key_at c.args.class b) (difference b) b.area c.args.y (lead + i) (lead + (i + 1))
-          (edge_key c.edge_category-category.result s) (get_or c.part_of_row-inputs.result.now i 0) s c.args.tallies.now c.loop-i.tallies c.add_edge.new.tallies
-          c.loop-i.invariant.added (omega arith) (omega arith) (ap₂ (λ k v. edge_key k v) category (sym value))
+          k (get_or c.part_of_row-inputs.result.now i 0) s c.args.tallies.now c.loop-i.tallies c.add_edge.new.tallies
+          c.loop-i.invariant.added (omega arith) (omega arith) key
           (ap₂ (λ p q. pos p -ℤ pos q) (sym input) (sym value)) c.add_edge.ensures;
-      few = at_most_edge (64 * c.args.y + (lead + i)) (64 * c.args.y + (lead + (i + 1))) (edge_key c.edge_category-category.result s)
+      few = at_most_edge (64 * c.args.y + (lead + i)) (64 * c.args.y + (lead + (i + 1))) k
           (get_or c.part_of_row-inputs.result.now i 0) s c.loop-i.tallies c.add_edge.new.tallies c.loop-i.invariant.few (omega arith) (omega arith)
-          (c.type_inv.inputs i).fits
+          (c.put_row_of_keys.ensures.most i (omega arith)) (c.type_inv.inputs i).fits
           (subst (λ v. v < 256) (sym value) (byte_at b.deblocked.samples (row * b.deblocked.width + (c.args.block.area.left + (lead + i))) c.args.block.inside.bytes))
           c.add_edge.ensures;
     }
+
+pub add_edge-requires-clause-key : goal.add_edge-requires-clause-key
+add_edge-requires-clause-key c = c.put_row_of_keys.ensures.most c.loop-i.i (omega arith)
 
 pub returns-clause-added : goal.returns-clause-added
 returns-clause-added c =

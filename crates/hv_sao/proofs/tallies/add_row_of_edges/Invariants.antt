@@ -9,5 +9,5 @@ abbrev pub invariant-loop-i : goal.invariant-loop-i
 invariant-loop-i l = let b = block_of l.block.deblocked.now l.block.input.now l.block.area in
     let x = l.row.start - l.block.area.left + l.i in record {
       added : Adds 32 (edge_key_at l.class b) (difference b) (row_locations b.area l.y x) l.fn.tallies l.tallies;
-      few : AreAtMost 32 (64 * l.y + x) l.tallies;
+      few : AreAtMost 33 (64 * l.y + x) l.tallies;
     }

@@ -7,6 +7,6 @@ use Rattle.hv_sao.proofs.tallies.tally_edges.Given as goal
 
 abbrev pub invariant-loop-y : goal.invariant-loop-y
 invariant-loop-y l = let b = block_of l.block.deblocked.now l.block.input.now l.block.area in record {
-  added : Adds 32 (edge_key_at l.class b) (difference b) (rows_before b.area l.y) (replicate 32 no_tally) l.tallies;
-  few : AreAtMost 32 (64 * l.y) l.tallies;
+  added : Adds 32 (edge_key_at l.class b) (difference b) (rows_before b.area l.y) (replicate 33 no_tally) l.tallies;
+  few : AreAtMost 33 (64 * l.y) l.tallies;
 }

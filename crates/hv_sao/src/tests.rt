@@ -1,9 +1,10 @@
-//! Each public call, on flat pictures.
+//! Each public call, on flat pictures and on one with a spike.
 ghost use Rattle.std.specs.Prelude.{IfOk};
+ghost use Rattle.hv_types.specs.Samples.{IsPlane};
 ghost use Rattle.hv_types.specs.Video.{IsPicture};
 
 use crate::{apply_sao, choose_sao};
-use hv_plan::{Place, SaoComponent, SaoKind};
+use hv_plan::{Place, SaoComponent, SaoKind, SaoParam};
 use hv_types::{NoMemory, Picture, Plane};
 use std::alloc::Global;
 use std::test::Fail;
@@ -47,6 +48,69 @@ fn flat_pictures_are_raised_by_bands(rt: HostRuntime) -> Result<(), Fail> {
     assert_eq!(rt; choice.cr, band(28, 0, 5));
     assert_eq!(rt; shown.luma.samples(), input.luma.samples());
     assert_eq!(rt; shown.cb.samples(), input.cb.samples());
+    assert_eq!(rt; shown.cr.samples(), input.cr.samples());
+    Ok(())
+}
+
+/// A plane of 8 columns and rows of 10, but for a column of 12.
+fn spiked(alloc: Global) -> Result<Plane, NoMemory>
+    ensures { IfOk result (IsPlane 8 8) }
+{
+    let mut plane = Plane::new(alloc, 8, 8, 10)?;
+    for y in 0..8u32 {
+        plane.set(2, y, 12);
+    }
+    Ok(plane)
+}
+
+/// A plane of 4 columns and rows of 98, but for two rows of 97.
+fn uneven(alloc: Global) -> Result<Plane, NoMemory>
+    ensures { IfOk result (IsPlane 4 4) }
+{
+    let mut plane = Plane::new(alloc, 4, 4, 98)?;
+    for x in 0..4u32 {
+        plane.set(x, 1, 97);
+        plane.set(x, 3, 97);
+    }
+    Ok(plane)
+}
+
+/// The spike of luma has category 4, and what is beside it category 2, whose mean is 0. Cb lies 2.5
+/// too high in band 12, which is rounded away from 0.
+#[test]
+fn a_spike_is_levelled(rt: HostRuntime) -> Result<(), Fail> {
+    let deblocked = Picture {
+        luma: spiked(rt.alloc())?,
+        cb: Plane::new(rt.alloc(), 4, 4, 100)?,
+        cr: Plane::new(rt.alloc(), 4, 4, 50)?,
+    };
+    let input = Picture {
+        luma: Plane::new(rt.alloc(), 8, 8, 10)?,
+        cb: uneven(rt.alloc())?,
+        cr: Plane::new(rt.alloc(), 4, 4, 50)?,
+    };
+    let mut shown = flat(rt.alloc(), 0, 0, 0)?;
+    let place = Place {
+        width: 8,
+        height: 8,
+        index: 0,
+    };
+
+    let choice = choose_sao(&deblocked, &input, place, 12);
+    apply_sao(&deblocked, &[choice], &mut shown);
+
+    let spike = SaoComponent {
+        kind: SaoKind::Edge { class: 0 },
+        offsets: [0, 0, 0, -2],
+    };
+    let wanted = SaoParam {
+        luma: spike,
+        cb: band(9, 0, -3),
+        cr: band(0, 0, 0),
+    };
+    assert_eq!(rt; choice, wanted);
+    assert_eq!(rt; shown.luma.samples(), input.luma.samples());
+    assert_eq!(rt; (shown.cb.at(0, 0), shown.cb.at(3, 3)), (97, 97));
     assert_eq!(rt; shown.cr.samples(), input.cr.samples());
     Ok(())
 }

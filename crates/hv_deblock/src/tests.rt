@@ -128,18 +128,56 @@ fn steps_between_units(rt: HostRuntime) -> Result<(), Fail> {
     Ok(())
 }
 
+/// A line of these samples, from the edge away: p and then q.
+fn line_of(p: [u8; 4], q: [u8; 4]) -> Line {
+    Line {
+        p: side_of(p),
+        q: side_of(q),
+    }
+}
+
+/// Four samples, from the edge away.
+fn side_of(samples: [u8; 4]) -> Side {
+    let [s0, s1, s2, s3] = samples;
+    Side { s0, s1, s2, s3 }
+}
+
+/// The strong filter against the normal one at quantiser 32, where beta is 26 and tC 3: below each
+/// of its three thresholds, and at it.
+#[test]
+fn thresholds_of_the_strong_filter(rt: HostRuntime) -> Result<(), Fail> {
+    let level = [100; 4];
+    let lines = [
+        (line_of(level, [107; 4]), [103, 102, 101, 100]),
+        (line_of(level, [108; 4]), [103, 101, 100, 100]),
+        (line_of([101, 100, 101, 101], [101; 4]), [101; 4]),
+        (
+            line_of([102, 100, 101, 101], [102; 4]),
+            [102, 100, 101, 101],
+        ),
+        (line_of([100, 99, 98, 98], level), [100, 99, 99, 98]),
+        (line_of([100, 99, 98, 97], level), [100, 99, 98, 97]),
+    ];
+    for (line, wanted) in &lines {
+        let filtered = luma_line(26, 3, *line, *line, *line);
+        assert_eq!(rt; filtered.p, side_of(*wanted));
+    }
+    Ok(())
+}
+
 #[test]
 fn parts_of_the_filter(rt: HostRuntime) -> Result<(), Fail> {
     let still = square_of(moved(0, 0), false);
     let strengths = [
         strength(still, square_of(Pred::Intra { mode: 1 }, false)),
         strength(still, square_of(moved(0, 0), true)),
+        strength(square_of(moved(0, 0), true), still),
         strength(still, square_of(moved(1, 0), false)),
         strength(still, square_of(moved(0, 4), false)),
         strength(still, square_of(moved(0, -3), false)),
     ];
 
-    assert_eq!(rt; strengths, [2, 1, 1, 1, 0]);
+    assert_eq!(rt; strengths, [2, 1, 1, 1, 1, 0]);
     assert_eq!(rt;
         (is_transform_edge(4, 0), is_transform_edge(2, 1)),
         (true, false)

@@ -1,11 +1,11 @@
 -- Parts of rows of planes.
 use Rattle.std.proofs.Common.{◌≡◌, ℕ, ◌+◌, ◌-◌, ◌*◌, ◌<◌, ◌≤◌, List, length, get_or, slice_range, slice_set, ⊎_elim, refl, sym, ◌∙◌, ap, ap₂, arith}
 use Rattle.std.proofs.lemmas.List.{get_or-set_same, get_or-set_other}
-use Rattle.std.proofs.lemmas.Bool.{cases_lt}
+use Rattle.std.proofs.lemmas.Bool.{cases_eq, cases_lt}
 use Rattle.std.proofs.lemmas.List.Edits.{length-between, get_or-between}
 use Rattle.std.proofs.lemmas.Nat.{row_fits_turned}
 use Rattle.hv_types.specs.Samples.{Plane, sample_at}
-use Rattle.hv_sao.specs.Rows.{IsRow, HasPart}
+use Rattle.hv_sao.specs.Rows.{IsRow, HasPart, BeginsPart}
 
 pub length-part : (plane : Plane) (xs : List ℕ) (w x y count : ℕ) → length xs ≡ plane.width * plane.height → w ≡ plane.width →
     y < plane.height → x + count ≤ plane.width → y * w + x + count ≤ length xs
@@ -45,6 +45,43 @@ part_more lead count n v f old new h is room right = record {
       (cases_lt i count);
   before = λ k below. get_or-set_other new (lead + count) k v 0 (λ e. omega arith) ∙ h.before k below;
   behind = λ k above. get_or-set_other new (lead + count) k v 0 (λ e. omega arith) ∙ h.behind k (omega arith);
+}
+
+-- a part of which more and more is there
+pub part_not_begun : (lead count : ℕ) (f : ℕ → ℕ) (xs : List ℕ) → BeginsPart lead 0 count f xs xs
+part_not_begun lead count f xs = record {
+  part = λ i below. absurd (omega arith);
+  before = λ k below. refl;
+  behind = λ k above. refl;
+}
+
+pub part_begun : (lead n next count v : ℕ) (f : ℕ → ℕ) (old new : List ℕ) → BeginsPart lead n count f old new → next ≡ n + 1 → n < count →
+    lead + n < length new → v ≡ f n → BeginsPart lead next count f old (slice_set new (lead + n) v)
+part_begun lead n next count v f old new h is inside room right = record {
+  part = λ i below.
+      ⊎_elim
+      (λ here.
+      ap (λ k. get_or (slice_set new (lead + n) v) (lead + k) 0) here ∙ get_or-set_same new (lead + n) v 0 room ∙ right ∙ ap f (sym here))
+      (λ other. get_or-set_other new (lead + n) (lead + i) v 0 (λ e. other (omega arith)) ∙ h.part i (omega arith))
+      (cases_eq i n);
+  before = λ k below. get_or-set_other new (lead + n) k v 0 (λ e. omega arith) ∙ h.before k below;
+  behind = λ k above. get_or-set_other new (lead + n) k v 0 (λ e. omega arith) ∙ h.behind k above;
+}
+
+pub less_begun : (lead n fewer count : ℕ) (f : ℕ → ℕ) (old new : List ℕ) → BeginsPart lead n count f old new → fewer ≤ n →
+    BeginsPart lead fewer count f old new
+less_begun lead n fewer count f old new h least = record {
+  part = λ i below. h.part i (omega arith);
+  before = h.before;
+  behind = h.behind;
+}
+
+pub part_whole : (lead n count : ℕ) (f : ℕ → ℕ) (old new : List ℕ) → BeginsPart lead n count f old new → count ≤ n →
+    HasPart lead count f old new
+part_whole lead n count f old new h all = record {
+  part = λ i below. h.part i (omega arith);
+  before = h.before;
+  behind = h.behind;
 }
 
 -- one part behind another

@@ -16,6 +16,13 @@ pub record HasPart (lead count : ℕ) (f : ℕ → ℕ) (old new : List ℕ) : T
   pub before : (k : ℕ) → k < lead → slice_index_or new k 0 ≡ slice_index_or old k 0
   pub behind : (k : ℕ) → lead + count ≤ k → slice_index_or new k 0 ≡ slice_index_or old k 0
 
+-- of `count` numbers from place `lead` on, the first n are f 0, f 1 and so on; every number before
+-- and behind them all is as before
+pub record BeginsPart (lead n count : ℕ) (f : ℕ → ℕ) (old new : List ℕ) : Type 0 where
+  pub part : (i : ℕ) → i < n → slice_index_or new (lead + i) 0 ≡ f i
+  pub before : (k : ℕ) → k < lead → slice_index_or new k 0 ≡ slice_index_or old k 0
+  pub behind : (k : ℕ) → lead + count ≤ k → slice_index_or new k 0 ≡ slice_index_or old k 0
+
 -- sample i of a row with the offset of its band
 abbrev pub band_sample : SaoComponent → ℕ → List ℕ → ℕ → ℕ
 band_sample component position samples i =

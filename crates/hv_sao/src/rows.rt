@@ -1,11 +1,11 @@
 //! Parts of rows with their offsets.
 
-ghost use Rattle.std.specs.Prelude.{◌≡◌, ◌-◌, ◌+◌, ◌<◌, ◌≤◌, length};
+ghost use Rattle.std.specs.Prelude.{◌≡◌, ℕ, ◌-◌, ◌+◌, ◌<◌, ◌≤◌, List, length};
 ghost use Rattle.hv_filter_model.specs.SampleAdaptiveOffset.{sao_sample, IsKind};
-ghost use Rattle.hv_sao.specs.Rows.{IsRow, HasPart, band_sample, edge_sample};
+ghost use Rattle.hv_sao.specs.Rows.{IsRow, HasPart, BeginsPart, band_sample, edge_sample};
 
 use crate::edges::{EdgeRow, edge_row, part_of_row};
-use crate::samples::{band_category, edge_category, shown_sample};
+use crate::samples::{VECTOR, band_category, edge_category, shown_sample};
 use hv_plan::{SaoComponent, SaoKind};
 use hv_types::Plane;
 
@@ -20,8 +20,39 @@ fn fill_bands(samples: &[u8], position: u8, component: SaoComponent, out: &mut [
     }
 }
 
+/// Samples of a row from place `from` on, before place `to`, with the offsets of their edges,
+/// beside their two neighbours. The row begins at place `lead` of `out`.
+#[inline(always)]
+fn put_edges_between(
+    row: EdgeRow<'_>,
+    component: SaoComponent,
+    lead: usize,
+    from: usize,
+    to: usize,
+    out: &mut [u8],
+)
+    requires firsts { length row.first.now ≡ length row.samples.now }
+    requires seconds { length row.second.now ≡ length row.samples.now }
+    requires order { from ≤ to }
+    requires end { to ≤ length row.samples.now }
+    requires room { lead + length row.samples.now ≤ length out.old }
+    ensures { (base : List ℕ) →
+        BeginsPart lead from (length row.entry.samples.now)
+        (edge_sample component row.entry.samples.now row.entry.first.now row.entry.second.now)
+        base out.old →
+        BeginsPart lead to (length row.entry.samples.now)
+        (edge_sample component row.entry.samples.now row.entry.first.now row.entry.second.now)
+        base out.new }
+{
+    for i in from..to {
+        let sample = row.samples[i];
+        let category = edge_category(sample, row.first[i], row.second[i]);
+        out[lead + i] = shown_sample(component, sample, category);
+    }
+}
+
 /// Samples with the offsets of their edges, beside their two neighbours, from place `lead` of
-/// `out` on.
+/// `out` on. Where a row isn't a multiple of what a vector has, the last ones are done again.
 fn put_edges(row: EdgeRow<'_>, component: SaoComponent, lead: usize, out: &mut [u8])
     requires firsts { length row.first.now ≡ length row.samples.now }
     requires seconds { length row.second.now ≡ length row.samples.now }
@@ -30,10 +61,12 @@ fn put_edges(row: EdgeRow<'_>, component: SaoComponent, lead: usize, out: &mut [
         (edge_sample component row.entry.samples.now row.entry.first.now row.entry.second.now)
         out.old out.new }
 {
-    for i in 0..row.samples.len() {
-        let sample = row.samples[i];
-        let category = edge_category(sample, row.first[i], row.second[i]);
-        out[lead + i] = shown_sample(component, sample, category);
+    let count = row.samples.len();
+    let whole = count / VECTOR * VECTOR;
+    put_edges_between(row, component, lead, 0, whole, out);
+    if whole < count {
+        let again = count.saturating_sub(VECTOR);
+        put_edges_between(row, component, lead, again, count, out);
     }
 }
 

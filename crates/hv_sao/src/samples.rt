@@ -1,4 +1,5 @@
-//! Single samples: their categories, and what they are with an offset.
+//! Single samples: their categories, and what they are with an offset. All is chosen without tables,
+//! so that a compiler can do it for many samples at once.
 
 ghost use Rattle.std.specs.Prelude.{◌≡◌, ◌≤◌, ◌<◌, ◌/◌, ◌∷◌, [], slice_index_or, Some, pos, ◌+ℤ◌};
 ghost use Rattle.hv_lemmas.specs.Clipping.{clip1};
@@ -6,12 +7,16 @@ ghost use Rattle.hv_filter_model.specs.SampleAdaptiveOffset.{bandTable, compared
 
 use hv_plan::SaoComponent;
 
+/// How many samples a compiler does at once where a loop over a row calls the functions here.
+pub(crate) const VECTOR: usize = 16;
+
 /// A sample with an offset, cut to a byte (`Clip1`).
 #[inline(always)]
 pub(crate) fn with_offset(sample: u8, offset: i8) -> u8
     ensures { result ≡ clip1 (pos sample +ℤ offset) }
 {
-    (i16::from(sample) + i16::from(offset)).clamp(0, 255) as u8
+    let raised = sample.saturating_add(offset.max(0) as u8);
+    raised.saturating_sub(offset.min(0).unsigned_abs())
 }
 
 /// The sign of `a - b`, and 1.
@@ -29,8 +34,7 @@ fn compared(a: u8, b: u8) -> u8
     }
 }
 
-/// The edge that two comparisons give, by the sum of their signs and 2. Like the other functions
-/// here it is written so that a compiler can do it for many samples at once.
+/// The edge that two comparisons give, by the sum of their signs and 2.
 #[inline(always)]
 fn edge_of_sum(sum: u8) -> u8
     requires { sum ≤ 4 }

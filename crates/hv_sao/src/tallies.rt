@@ -10,11 +10,8 @@ ghost use Rattle.hv_sao.specs.Decisions.{block_of, value_key, edge_key, edge_key
 
 use crate::block::Block;
 use crate::edges::{EdgeRow, edge_row, part_of_row};
-use crate::samples::edge_category;
+use crate::samples::{VECTOR, edge_category};
 use crate::tally::Tally;
-
-/// How many samples a compiler does at once.
-const VECTOR: usize = 16;
 
 /// Counts the samples of row `y` of a block by their values.
 fn add_row_of_values(block: Block<'_>, y: u32, tallies: &mut [Tally])

@@ -1,15 +1,23 @@
-use Rattle.std.proofs.Common.{ℕ, pos, ◌+ℤ◌, ◌+◌, ◌∙◌, ap, refl, get_or, arith}
-use Rattle.hv_lemmas.specs.Clipping.{clip1}
-use Rattle.hv_filter_model.specs.SampleAdaptiveOffset.{SaoOffsetVal}
+use Rattle.std.proofs.Common.{ℕ, ◌*◌, ◌/◌, length, arith}
 use Rattle.hv_sao.specs.Rows.{edge_sample}
-use Rattle.hv_sao.proofs.RowLemmas.{part_more}
+use Rattle.hv_sao.proofs.RowLemmas.{part_not_begun, less_begun, part_whole}
 use Rattle.hv_sao.proofs.rows.put_edges.Goals as goal
 
-pub loop-i-preserved : goal.loop-i-preserved
-loop-i-preserved c =
-    let s : ℕ = get_or c.args.row.samples.now c.loop-i.i 0 in
-    part_more c.args.lead c.loop-i.i (c.loop-i.i + 1) c.shown_sample.result
-    (edge_sample c.args.component c.args.row.samples.now c.args.row.first.now c.args.row.second.now) c.args.out.now c.loop-i.out
-    c.loop-i.invariant refl (omega arith)
-    (c.shown_sample.ensures
-    ∙ ap (λ k. clip1 (pos s +ℤ SaoOffsetVal c.args.component k)) c.edge_category-category.ensures.value)
+pub returns-then-whole-count : goal.returns-then-whole-count
+returns-then-whole-count c =
+    let n : ℕ = length c.args.row.samples.now in
+    let f : ℕ → ℕ = edge_sample c.args.component c.args.row.samples.now c.args.row.first.now c.args.row.second.now in
+    part_whole c.args.lead n n f c.args.out.now c.put_edges_between-then-whole-count.new.out
+    (c.put_edges_between-then-whole-count.ensures c.args.out.now
+    (less_begun c.args.lead (n / 16 * 16) c.saturating_sub-again.result n f c.args.out.now c.put_edges_between.new.out
+    (c.put_edges_between.ensures c.args.out.now (part_not_begun c.args.lead n f c.args.out.now))
+    (omega (arith, c.saturating_sub-again.ensures))))
+    (omega arith)
+
+pub returns-else-whole-count : goal.returns-else-whole-count
+returns-else-whole-count c =
+    let n : ℕ = length c.args.row.samples.now in
+    let f : ℕ → ℕ = edge_sample c.args.component c.args.row.samples.now c.args.row.first.now c.args.row.second.now in
+    part_whole c.args.lead (n / 16 * 16) n f c.args.out.now c.put_edges_between.new.out
+    (c.put_edges_between.ensures c.args.out.now (part_not_begun c.args.lead n f c.args.out.now))
+    (omega arith)

@@ -43,7 +43,6 @@ use Rattle.hv_model.specs.IntraPictures.{chosen_trees, working_picture, picture_
 use Rattle.hv_model.proofs.IntraUnitLemmas.{intra_units_valid}
 use Rattle.hv_model.proofs.PlannedIntraLemmas.{deblocked_by_plans}
 use Rattle.hv_serial.specs.ChosenPictures.{slice_header, task_in, HaveUnits, AreBest, AreChosen, chosen_unit, chosen_picture}
-use Rattle.hv_serial.proofs.BlankGroupLemmas.{as_many}
 
 -- ---- blocks and their plans
 
@@ -127,7 +126,7 @@ module _ (group : GroupInput) (number : ℕ) (blocks : List Block)
     all_intra : AreTrees I 0 places (planned_trees places (plans_of blocks))
     all_intra =
         subst (AreTrees I 0 places) (sym planned)
-        (valid_trees_in I 0 (task_in group number) places [] nothing_decoded)
+        (valid_trees_in I 0 (task_in group number) places [] (nothing_decoded []))
 
     quantiser : picture_qp group number ≡ header.qp
     quantiser = quantiser_in group.config (length group.pictures) number
@@ -189,31 +188,3 @@ blocks_chosen group number width height t blocks wide high task count whole best
       (subst (λ h. AreBest (task_in group number) width h blocks) high
       (subst (λ s. AreBest s width height blocks) task best));
 }
-
--- ---- the pictures whose padded ones are given
-
-module _ (group : GroupInput) (number : ℕ) (there : number < length group.pictures)
-    (pictures : List Picture) (same : map pad pictures ≡ group.pictures) where
-  count_same : length group.pictures ≡ length pictures
-  count_same = as_many pictures group.pictures same
-
-  input_same : input_picture group number ≡ padded_input pictures number
-  input_same =
-      let none : Picture = flat_picture 0 0 0 0 0 in
-      ap (λ list. slice_index_or list number none) (sym same) ∙
-      get_or-map pad pictures number none none (omega (arith, there, count_same))
-
-  pub unit_of_padded : chosen_unit group number ≡ picture_unit group.config pictures number
-  unit_of_padded =
-      ap₂ (λ count input. unit_bytes (unit_of_slice (header_in group.config count number)
-      (picture_sites group.config)
-      (coded_units group.config (header_in group.config count number) input)))
-      count_same input_same
-
-  pub picture_of_padded :
-      chosen_picture group number ≡
-      recon_picture group.config (header_in group.config (length pictures) number)
-      (padded_input pictures number)
-  picture_of_padded =
-      ap₂ (λ count input. recon_picture group.config (header_in group.config count number) input)
-      count_same input_same

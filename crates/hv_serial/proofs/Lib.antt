@@ -12,4 +12,5 @@ mod BlankGroupLemmas
 mod CropLemmas
 mod IntraGroupLemmas
 mod IntraPictureLemmas
+mod PaddedGroupLemmas
 pub mod EndLemmas

@@ -1,10 +1,13 @@
 -- A picture of a group whose coding tree blocks are chosen: what is given for their choice, the
 -- blocks themselves, its unit, and the picture that is shown, by the padded pictures of the group.
-use Rattle.std.specs.Prelude.{◌≡◌, ℕ, ◌*◌, ◌<◌, List, [], length, slice_get, Some}
+-- So also for all pictures of the group.
+use Rattle.std.specs.Prelude.{◌≡◌, ℕ, ◌*◌, ◌<◌, List, [], length, map, slice_get, Some}
 use Rattle.hv_types.specs.declared.picture.Picture.{Picture}
 use Rattle.hv_types.specs.Configuration.{padded_width, padded_height, columns, rows}
+use Rattle.hv_types.specs.Video.{crop}
 use Rattle.hv_types.specs.GroupInput.{GroupInput}
 use Rattle.hv_block.specs.declared.block.Block.{Block}
+use Rattle.hv_group_model.specs.Structure.{coding, rising}
 use Rattle.hv_stream_model.specs.Headers.{SliceHeader}
 use Rattle.hv_stream_model.specs.Units.{unit_bytes}
 use Rattle.hv_tree_model.specs.Sites.{sites}
@@ -35,9 +38,9 @@ HaveUnits count blocks =
 -- ones, and have all that is decoded
 pub record AreBest (t : Task) (width height : ℕ) (blocks : List Block) : Type 0 where
   pub trees :
-      trees_of width height blocks ≡ best_trees t (sites width height) [] nothing_decoded
+      trees_of width height blocks ≡ best_trees t (sites width height) [] (nothing_decoded [])
   pub decoded :
-      AreOfBlocks width height blocks (best_decoded t (sites width height) [] nothing_decoded)
+      AreOfBlocks width height blocks (best_decoded t (sites width height) [] (nothing_decoded []))
   pub names : NameTheirUnits width height (plans_of blocks)
 
 -- they are those of the picture
@@ -60,3 +63,17 @@ chosen_unit group number =
 abbrev pub chosen_picture : GroupInput → ℕ → Picture
 chosen_picture group number =
     recon_picture group.config (slice_header group number) (input_picture group number)
+
+-- ---- a group
+
+-- the units of its pictures, in coding order
+abbrev pub units_of_group : GroupInput → List (List ℕ)
+units_of_group group =
+    map (λ coded. chosen_unit group coded.picture)
+    (coding (length group.pictures) group.config.levels)
+
+-- the pictures that are shown, cropped, in output order
+abbrev pub shown_of_group : GroupInput → List Picture
+shown_of_group group =
+    map (λ number. crop (chosen_picture group number) group.config.width group.config.height)
+    (rising (length group.pictures) 0)

@@ -4,3 +4,4 @@ pub mod Endings
 pub mod Steps
 pub mod BlankGroups
 pub mod ChosenPictures
+pub mod Workspaces

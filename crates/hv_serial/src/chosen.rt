@@ -7,14 +7,14 @@ ghost use Rattle.hv_types.specs.Video.{IsPadded};
 ghost use Rattle.hv_stream_model.specs.Headers.{used_count};
 ghost use Rattle.hv_mode.specs.Pictures.{task_of};
 ghost use Rattle.hv_slice_model.specs.Slices.{header_in};
-ghost use Rattle.hv_model.specs.IntraPictures.{picture_unit, recon_picture, input_picture};
-ghost use Rattle.hv_serial.specs.Steps.{OfPadded};
 ghost use Rattle.hv_serial.specs.ChosenPictures.{slice_header, task_in, HaveUnits, AreChosen, chosen_unit, chosen_picture};
+ghost use Rattle.hv_serial.specs.Workspaces.{IsSpace};
 
+use crate::workspace::PictureSpace;
 use hv_block::{Block, Frame};
 use hv_decision::Group;
 use hv_filter::filter_picture;
-use hv_mode::{PictureTask, Room, decide_blocks};
+use hv_mode::{PictureTask, decide_blocks};
 use hv_packet::code_picture;
 use hv_slice::active_references;
 use hv_tables::SliceKind;
@@ -23,40 +23,25 @@ use std::alloc::Global;
 
 /// Chooses the coding tree blocks of a picture of the group, filters what is decoded of them (8.7),
 /// and codes them: the picture's unit, with its start code (7.3.1, Annex B). `shown` of the frame
-/// becomes the picture that a decoder shows, before it is cropped. What `room`, `blocks` and
-/// `frame` had before doesn't matter. The only error is want of memory, for the bytes of the unit.
+/// becomes the picture that a decoder shows, before it is cropped. What `space` had before doesn't
+/// matter. The only error is want of memory, for the bytes of the unit.
 pub(crate) fn code_intra_picture(
     alloc: Global,
     group: &Group,
     picture: u8,
-    room: &mut Room,
-    blocks: &mut Vec<Block>,
-    frame: &mut Frame,
+    space: &mut PictureSpace,
 ) -> Result<Vec<u8>, NoMemory>
     requires valid { IsValid group.now.input.config }
     requires picture { picture < length group.now.input.pictures }
-    requires blocks { length blocks.old.items ≡
-        columns group.now.input.config * rows group.now.input.config }
-    requires shown { IsPadded group.now.input.config frame.old.shown }
-    requires working { IsPadded group.now.input.config frame.old.working }
-    requires sao { length frame.old.sao.items ≡
-        columns group.now.input.config * rows group.now.input.config }
-    ensures unit { IfOk result (λ unit. OfPadded group.now.input.pictures (λ pictures.
-        unit.items ≡ picture_unit group.now.input.config pictures picture)) }
-    ensures shown { OfPadded group.now.input.pictures (λ pictures. frame.new.shown ≡
-        recon_picture group.now.input.config
-        (header_in group.now.input.config (length pictures) picture)
-        (input_picture pictures picture)) }
-    ensures count { length blocks.new.items ≡ length blocks.old.items }
-    ensures shown_padded { IsPadded group.now.input.config frame.new.shown }
-    ensures working_padded { IsPadded group.now.input.config frame.new.working }
-    ensures sao_count { length frame.new.sao.items ≡
-        columns group.now.input.config * rows group.now.input.config }
+    requires space { IsSpace group.now.input.config space.old }
+    ensures unit { IfOk result (λ unit. unit.items ≡ chosen_unit group.now.input picture) }
+    ensures shown { space.new.frame.shown ≡ chosen_picture group.now.input picture }
+    ensures space { IsSpace group.now.input.config space.new }
 {
     let task = picture_task(group, picture);
-    decide_blocks(&task, room, blocks);
-    have_units(blocks);
-    code_chosen_picture(alloc, group, picture, blocks, frame)
+    decide_blocks(&task, &mut space.room, &mut space.blocks);
+    have_units(&space.blocks);
+    code_chosen_picture(alloc, group, picture, &space.blocks, &mut space.frame)
 }
 
 /// What is given for the coding tree blocks of a picture of the group.

@@ -7,6 +7,7 @@ ghost use Rattle.hv_serial.specs.Endings.{Ends};
 
 use crate::answers::{EncodeError, Totals};
 use crate::reading::read_group;
+use crate::workspace::Workspace;
 use crate::writing::write_group;
 use hv_types::{Config, Failed, Sink, Source};
 use std::alloc::Global;
@@ -33,7 +34,7 @@ pub fn encode_video<S: Source, K: Sink>(
 }
 
 /// Reads groups until the input ends, and encodes and writes each before the next one is read. The
-/// buffer for a raw picture is taken once.
+/// buffer for a raw picture is taken once, and so is what groups are encoded in.
 fn encode_groups<S: Source, K: Sink>(
     alloc: Global,
     config: &Config,
@@ -46,6 +47,9 @@ fn encode_groups<S: Source, K: Sink>(
 {
     let size = config.picture_bytes() as usize;
     let Ok(mut raw) = vec![in alloc; 0u8; size] else {
+        return Err(EncodeError::NoMemory);
+    };
+    let Ok(mut work) = Workspace::new(alloc, config) else {
         return Err(EncodeError::NoMemory);
     };
     let mut totals = Totals {
@@ -62,7 +66,7 @@ fn encode_groups<S: Source, K: Sink>(
         if count == 0 {
             return Ok(totals);
         }
-        let bytes = match write_group(alloc, totals.groups, input, out) {
+        let bytes = match write_group(alloc, totals.groups, input, &mut work, out) {
             Ok(bytes) => bytes,
             Err(error) => return Err(error),
         };

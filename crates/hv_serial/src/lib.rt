@@ -12,9 +12,11 @@ mod shown;
 #[cfg(test)]
 mod tests;
 mod transfer;
+mod workspace;
 mod writing;
 
 pub use answers::{EncodeError, Totals};
 pub use encode::encode_video;
 pub use group::encode_group_serial;
 pub use transfer::write_all;
+pub use workspace::{PictureSpace, Workspace};

@@ -4,11 +4,13 @@ ghost use Rattle.std.specs.Prelude.{◌≡◌, ◌<◌, ◌++◌, length, flat_m
 ghost use Rattle.hv_model.specs.Built.{IsBuilt};
 ghost use Rattle.hv_serial.specs.Transfers.{put};
 ghost use Rattle.hv_serial.specs.Steps.{EndsWriting, OfPadded, bytes_of_group, joined_as, sets_of};
+ghost use Rattle.hv_serial.specs.Workspaces.{IsWorkspace};
 
 use crate::answers::EncodeError;
 use crate::group::encode_group_serial;
 use crate::parameters::parameter_sets;
 use crate::transfer::write_all;
+use crate::workspace::Workspace;
 use hv_decision::{Group, GroupOutput, Structure};
 use hv_types::{Config, Emit, GroupInput, NoMemory, Sink};
 use std::alloc::Global;
@@ -19,14 +21,17 @@ pub(crate) fn write_group<K: Sink>(
     alloc: Global,
     number: u32,
     input: GroupInput,
+    work: &mut Workspace,
     out: &mut K,
 ) -> Result<usize, EncodeError>
     requires built { IsBuilt input.config }
     requires some { 0 < length input.pictures }
-    ensures { EndsWriting input.config (nat_eq number 0) input.pictures
+    requires work { IsWorkspace input.config work.old }
+    ensures ends { EndsWriting input.config (nat_eq number 0) input.pictures
         (put K.written K.faults out.old out.new) result }
+    ensures work { IsWorkspace input.config work.new }
 {
-    let Ok(bytes) = group_bytes(alloc, number, input) else {
+    let Ok(bytes) = group_bytes(alloc, number, input, work) else {
         return Err(EncodeError::NoMemory);
     };
     let Ok(()) = write_all(out, &bytes) else {
@@ -36,11 +41,18 @@ pub(crate) fn write_group<K: Sink>(
 }
 
 /// What is written of the group of this number.
-fn group_bytes(alloc: Global, number: u32, input: GroupInput) -> Result<Vec<u8>, NoMemory>
+fn group_bytes(
+    alloc: Global,
+    number: u32,
+    input: GroupInput,
+    work: &mut Workspace,
+) -> Result<Vec<u8>, NoMemory>
     requires built { IsBuilt input.config }
     requires some { 0 < length input.pictures }
-    ensures { IfOk result (λ bytes. OfPadded input.pictures (λ pictures.
+    requires work { IsWorkspace input.config work.old }
+    ensures bytes { IfOk result (λ bytes. OfPadded input.pictures (λ pictures.
         bytes.items ≡ bytes_of_group input.config (nat_eq number 0) pictures)) }
+    ensures work { IsWorkspace input.config work.new }
 {
     let config = input.config();
     let structure = Structure::of(alloc, input.count(), config.settings().levels)?;
@@ -49,7 +61,7 @@ fn group_bytes(alloc: Global, number: u32, input: GroupInput) -> Result<Vec<u8>,
         input,
         structure,
     };
-    let output = encode_group_serial(alloc, &group)?;
+    let output = encode_group_serial(alloc, &group, work)?;
     joined_output(alloc, &config, number, &output)
 }
 

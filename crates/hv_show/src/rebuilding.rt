@@ -102,6 +102,8 @@ fn rebuild_unit(
                 place,
                 qp,
                 near,
+                None,
+                None,
                 &mut block.samples,
             );
             leaves.note(size, mode);

@@ -1,5 +1,5 @@
 -- Planes of samples, and the lists that they are made of.
-use Rattle.std.specs.Prelude.{◌≡◌, ℕ, ◌+◌, ◌-◌, ◌*◌, ◌<◌, List, ◌++◌, length, replicate, All, min, slice_index, slice_index_or, slice_range, slice_set}
+use Rattle.std.specs.Prelude.{◌≡◌, ℕ, ◌+◌, ◌-◌, ◌*◌, ◌<◌, List, ◌++◌, length, replicate, All, min, slice_index, slice_index_or, slice_range, slice_set, take, drop}
 use Rattle.std.specs.List.{concat}
 use Rattle.hv_lemmas.specs.Lists.{tabulate}
 
@@ -52,6 +52,14 @@ filled_plane w h v = plane_of w h (λ _ _. v)
 -- p with v in column x of row y
 abbrev pub with_sample : Plane → ℕ → ℕ → ℕ → Plane
 with_sample p x y v = record p { samples = slice_set p.samples (y * p.width + x) v }
+
+-- p with these values in row y, from column x on
+abbrev pub with_run : Plane → ℕ → ℕ → List ℕ → Plane
+with_run p x y values =
+    let first : ℕ = y * p.width + x in
+    record p {
+      samples = take first p.samples ++ values ++ drop (first + length values) p.samples;
+    }
 
 -- p made w wide and h high: its last column is repeated, and then its last row
 abbrev pub pad_plane : Plane → ℕ → ℕ → Plane

@@ -53,7 +53,7 @@ impl Model for Plane {
 }
 
 impl Plane {
-    ghost use Rattle.hv_types.specs.Samples.{plane_by_rows, sample_at, row_of, with_sample, filled_plane, pad_plane};
+    ghost use Rattle.hv_types.specs.Samples.{plane_by_rows, sample_at, row_of, with_sample, with_run, filled_plane, pad_plane};
 
     /// A plane of `width` columns and `height` rows, at least 1 each. Every sample is `value`.
     /// The only error is want of memory.
@@ -149,6 +149,18 @@ impl Plane {
         let at = y as usize * self.width as usize + x as usize;
         self.samples[at] = value;
     }
+
+    /// Puts `values` in row `y` from column `x` on, all of them in the plane, and leaves every
+    /// other sample.
+    #[inline(always)]
+    pub fn set_run(&mut self, x: u32, y: u32, values: &[u8])
+        requires y { y < self.old.height }
+        requires across { x + length values.now ≤ self.old.width }
+        ensures { self.new ≡ with_run self.old x y values.now }
+    {
+        let first = y as usize * self.width as usize + x as usize;
+        self.samples[first..first + values.len()].copy_from_slice(values);
+    }
 }
 
 /// Row `y` of samples by rows, of these sides, or the last row where there is no such row.
@@ -192,6 +204,17 @@ mod tests {
         assert_eq!(rt; (plane.at(2, 1), plane.at(1, 1)), (9, 7));
         assert_eq!(rt; plane.row(0), [7, 7, 7].as_slice());
         assert_eq!(rt; plane.row(1), [7, 7, 9].as_slice());
+        Ok(())
+    }
+
+    #[test]
+    fn a_run_of_two_of_six(rt: HostRuntime) -> Result<(), Fail> {
+        let mut plane = Plane::new(rt.alloc(), 3, 2, 7)?;
+
+        plane.set_run(1, 0, &[8, 9]);
+
+        assert_eq!(rt; plane.row(0), [7, 8, 9].as_slice());
+        assert_eq!(rt; plane.row(1), [7, 7, 7].as_slice());
         Ok(())
     }
 }

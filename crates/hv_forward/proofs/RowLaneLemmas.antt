@@ -20,7 +20,7 @@ use lib.Lanes.{zip2}
 use borrow.Rule.Simd.Lanes.{act2}
 use borrow.Table.Row.{s_int}
 use Rattle.std.specs.Prelude.{◌-ℤ◌}
-use Rattle.hv_lemmas.proofs.ComputedLemmas.{each_of_four}
+use Rattle.hv_lemmas.proofs.ComputedLemmas.{each_of_four, each_of_eight}
 
 short : (most : ℕ) (z : ℤ) → most ≤ 32767 → unsigned_abs z ≤ most → SFits w16 z
 short most z few h = fits_signed_from_abs w16 z (omega (arith, few, h))
@@ -34,17 +34,6 @@ numbers_of_eight most c v few h k =
 
 pub kept_eight : (most : ℕ) (c : ℕ → ℤ) (v : List ℤ) → most ≤ 32767 → EightLanes most c v → EightLanes most c (passed w16 v)
 kept_eight most c v few h = subst (EightLanes most c) (sym (kept w16 v (numbers_of_eight most c v few h))) h
-
-pub by_eight : (P : ℕ → Type 0) → P 0 → P 1 → P 2 → P 3 → P 4 → P 5 → P 6 → P 7 → (j : ℕ) → j < 8 → P j
-by_eight P a b c d e f g h zero p = a
-by_eight P a b c d e f g h (suc zero) p = b
-by_eight P a b c d e f g h (suc (suc zero)) p = c
-by_eight P a b c d e f g h (suc (suc (suc zero))) p = d
-by_eight P a b c d e f g h (suc (suc (suc (suc zero)))) p = e
-by_eight P a b c d e f g h (suc (suc (suc (suc (suc zero))))) p = f
-by_eight P a b c d e f g h (suc (suc (suc (suc (suc (suc zero)))))) p = g
-by_eight P a b c d e f g h (suc (suc (suc (suc (suc (suc (suc zero))))))) p = h
-by_eight P a b c d e f g h (suc (suc (suc (suc (suc (suc (suc (suc j)))))))) p = absurd (omega (arith, p))
 
 -- four lanes, one by one
 pub four_lanes : (f : ℕ → ℤ) (a b c d : ℤ) → a ≡ int_wrap w32 (f 0) → b ≡ int_wrap w32 (f 1) → c ≡ int_wrap w32 (f 2) → d ≡ int_wrap w32 (f 3) → FourLanes f (a ∷ b ∷ c ∷ d ∷ [])
@@ -156,7 +145,7 @@ turned ys =
 turned_at : (most : ℕ) (d : ℕ → ℤ) (ys : List ℤ) → EightLanes most d ys → (j : ℕ) → j < 8 → get_or (turned ys) j 0 ≡ of_z w16 (d (7 - j))
 turned_at most d ys h =
     let one = λ (k : ℕ) (below : k < 8). lane_at k ys (map (of_z w16) ys) (omega (arith, below, h.count)) ∙ ap (of_z w16) (h.each k below) in
-    by_eight (λ j. get_or (turned ys) j 0 ≡ of_z w16 (d (7 - j)))
+    each_of_eight (λ j. get_or (turned ys) j 0 ≡ of_z w16 (d (7 - j)))
     (one 7 (omega arith)) (one 6 (omega arith)) (one 5 (omega arith)) (one 4 (omega arith)) (one 3 (omega arith)) (one 2 (omega arith)) (one 1 (omega arith)) (one 0 (omega arith))
 
 pub sums_folded : (most : ℕ) (c d : ℕ → ℤ) (xs ys : List ℤ) → most ≤ 16383 → EightLanes most c xs → EightLanes most d ys → EightLanes (2 * most) (λ x. c x +ℤ d (7 - x)) (map (to_z w16) (plus (map (of_z w16) xs) (turned ys)))

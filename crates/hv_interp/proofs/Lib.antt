@@ -1,7 +1,7 @@
 mod EightSumLemmas
 mod InterpolationLemmas
 mod LaneLemmas
-mod PlaceLemmas
+pub mod PlaceLemmas
 mod PredictionLemmas
 mod RoundedLaneLemmas
 mod RoundedTotalLemmas

@@ -1,6 +1,8 @@
 -- Sums of pairs of taps times numbers in lanes of 32 bits, lane by lane.
-use Rattle.std.proofs.Common.{◌≡◌, ℕ, zero, suc, ◌+◌, ◌-◌, ◌*◌, ◌%◌, ◌<◌, List, [], ◌∷◌, ◌++◌, ℤ, pos, negsuc, ◌+ℤ◌, ◌*ℤ◌, map, take, take_all, drop, refl, sym, subst, ap, ap₂, ◌∙◌, ◌≤◌, arith, length}
-use Rattle.std.proofs.lemmas.Int.{to_z-of_z, wrapping_mul_is, wrapping_add-bits, int_wrap-add_left, int_wrap-add_right, int_wrap_fits}
+use Rattle.std.proofs.Common.{◌≡◌, ℕ, zero, suc, ◌+◌, ◌-◌, ◌*◌, ◌%◌, ◌<◌, List, [], ◌∷◌, ◌++◌, ℤ, pos, ◌+ℤ◌, ◌*ℤ◌, map, take, take_all, drop, refl, sym, subst, ap, ap₂, ◌∙◌, ◌≤◌, arith, length}
+use Rattle.hv_lemmas.proofs.ComputedLemmas.{each_of_eight}
+use Rattle.hv_lanes.proofs.LaneSumLemmas.{below, sum_is}
+use Rattle.std.proofs.lemmas.Int.{to_z-of_z, wrapping_mul_is, wrapping_add-bits, int_wrap-add_right, int_wrap_fits}
 use Rattle.std.proofs.lemmas.List.{get_or_append_left, get_or-append_right, get_or-map, length-map}
 use Rattle.std.proofs.Math.IntN.{*ℤ_comm}
 use Rattle.std.specs.Int.{int_wrap}
@@ -38,10 +40,6 @@ pairs taps first second =
 abbrev pub added : List ℤ → List ℕ → List ℤ
 added sums ms = map (to_z w32) (zip2 (act2 wrap_add (s_int w32) (s_int w32) (s_int w32)) (map (of_z w32) sums) ms)
 
-below : (z : ℤ) → SFits w32 z → of_z w32 z < 4294967296
-below (pos n) f = omega (arith, f)
-below (negsuc n) f = omega (arith, f)
-
 wide : (z : ℤ) → SFits w16 z → SFits w32 z
 wide z f = record { sfits = omega (arith, f) }
 
@@ -67,12 +65,6 @@ right n k xs ys l m p f =
     get_or-map (of_z w16) ys k (pos 0) 0 (omega (arith, p, m)) in
     ap (λ m. of_z w32 (to_z w16 m)) is ∙ ap (of_z w32) (to_z-of_z w16 (lane ys k) f)
 
-sum_is : (m n : ℕ) (a b : ℤ) → m < 4294967296 → n < 4294967296 → to_z w32 m ≡ int_wrap w32 a → to_z w32 n ≡ int_wrap w32 b →
-    to_z w32 ((m + n) % 4294967296) ≡ int_wrap w32 (a +ℤ b)
-sum_is m n a b p q e f =
-    wrapping_add-bits w32 m n p q ∙ ap₂ (λ a b. int_wrap w32 (a +ℤ b)) e f ∙
-    int_wrap-add_left w32 a (int_wrap w32 b) ∙ int_wrap-add_right w32 a b
-
 product_is : (m n : ℕ) (x t : ℤ) → m ≡ of_z w32 x → n ≡ of_z w32 t → SFits w32 x → SFits w32 t →
     to_z w32 (m * n % 4294967296) ≡ int_wrap w32 (t *ℤ x)
 product_is m n x t e f fx ft =
@@ -93,18 +85,6 @@ length-added (suc n) [] ms l m = absurd (omega arith)
 length-added (suc n) (s ∷ sums) [] l m = absurd (omega arith)
 length-added (suc n) (s ∷ sums) (x ∷ ms) l m = ap suc (length-added n sums ms (omega arith) (omega arith))
 
--- what holds of the numbers below 8
-pub below_8 : (P : ℕ → Type 0) → P 0 → P 1 → P 2 → P 3 → P 4 → P 5 → P 6 → P 7 → (j : ℕ) → j < 8 → P j
-below_8 P a b c d e f g h zero p = a
-below_8 P a b c d e f g h (suc zero) p = b
-below_8 P a b c d e f g h (suc (suc zero)) p = c
-below_8 P a b c d e f g h (suc (suc (suc zero))) p = d
-below_8 P a b c d e f g h (suc (suc (suc (suc zero)))) p = e
-below_8 P a b c d e f g h (suc (suc (suc (suc (suc zero))))) p = f
-below_8 P a b c d e f g h (suc (suc (suc (suc (suc (suc zero)))))) p = g
-below_8 P a b c d e f g h (suc (suc (suc (suc (suc (suc (suc zero))))))) p = h
-below_8 P a b c d e f g h (suc (suc (suc (suc (suc (suc (suc (suc j)))))))) p = absurd (omega (arith, p))
-
 pub pair_added : (j : ℕ) (sums taps first second : List ℤ) → length sums ≡ 8 → length taps ≡ 2 → length first ≡ 8 → length second ≡ 8 →
     ((i : ℕ) → SFits w32 (lane sums i)) → ((i : ℕ) → SFits w16 (lane taps i)) → ((i : ℕ) → SFits w16 (lane first i)) →
     ((i : ℕ) → SFits w16 (lane second i)) → j < 8 → SFits w32 (with_pair sums taps first second j) →
@@ -116,7 +96,7 @@ pair_added j sums taps first second l two m n fs ft f g p after =
     let a : ℤ = lane taps 0 in
     let b : ℤ = lane taps 1 in
     let here : get_or (pairs taps first second) j 0 ≡ pair_of taps first second j =
-    below_8 (λ j. get_or (pairs taps first second) j 0 ≡ pair_of taps first second j) refl refl refl refl refl refl refl refl j p in
+    each_of_eight (λ j. get_or (pairs taps first second) j 0 ≡ pair_of taps first second j) refl refl refl refl refl refl refl refl j p in
     let one : to_z w32 (pair_of taps first second j) ≡ int_wrap w32 ((a *ℤ x) +ℤ (b *ℤ y)) =
     sum_is _ _ (a *ℤ x) (b *ℤ y) (omega arith) (omega arith)
     (product_is _ _ x a (left 8 j first second m p (f j)) (left 2 0 taps taps two (omega arith) (ft 0)) (wide x (f j)) (wide a (ft 0)))

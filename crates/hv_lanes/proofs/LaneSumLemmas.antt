@@ -21,7 +21,7 @@ lane a b c d e f g h = to_z w32 (((product a e + product b f) % 4294967296 + (pr
 pub widened : (z : ℤ) → SFits w16 z → SFits w32 z
 widened z f = record { sfits = omega (arith, f) }
 
-below : (z : ℤ) → SFits w32 z → of_z w32 z < 4294967296
+pub below : (z : ℤ) → SFits w32 z → of_z w32 z < 4294967296
 below (pos n) f = omega (arith, f)
 below (negsuc n) f = omega (arith, f)
 
@@ -35,7 +35,8 @@ product_is x w f g =
 pub joined : (a b : ℤ) → int_wrap w32 (int_wrap w32 a +ℤ int_wrap w32 b) ≡ int_wrap w32 (a +ℤ b)
 joined a b = int_wrap-add_left w32 a (int_wrap w32 b) ∙ int_wrap-add_right w32 a b
 
-sum_is : (m n : ℕ) (a b : ℤ) → m < 4294967296 → n < 4294967296 → to_z w32 m ≡ int_wrap w32 a → to_z w32 n ≡ int_wrap w32 b → to_z w32 ((m + n) % 4294967296) ≡ int_wrap w32 (a +ℤ b)
+-- a sum of two
+pub sum_is : (m n : ℕ) (a b : ℤ) → m < 4294967296 → n < 4294967296 → to_z w32 m ≡ int_wrap w32 a → to_z w32 n ≡ int_wrap w32 b → to_z w32 ((m + n) % 4294967296) ≡ int_wrap w32 (a +ℤ b)
 sum_is m n a b p q e f =
     wrapping_add-bits w32 m n p q ∙ ap₂ (λ a b. int_wrap w32 (a +ℤ b)) e f ∙ joined a b
 

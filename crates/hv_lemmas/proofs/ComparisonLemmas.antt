@@ -1,5 +1,5 @@
 -- Tests of numbers, and truth values that they give: what they are where the numbers' order is known.
-use Rattle.std.proofs.Common.{◌≡◌, ℕ, suc, ◌<◌, ◌≤◌, Bool, true, false, refl, arith, nat_eq, nat_lt, ◌||◌}
+use Rattle.std.proofs.Common.{◌≡◌, ℕ, suc, ◌<◌, ◌≤◌, Bool, true, false, refl, arith, nat_eq, nat_lt, nat_le, ◌||◌}
 use Rattle.std.proofs.lemmas.Bool.Decides.{nat_tests}
 
 pub lt_below : (a b : ℕ) → a < b → nat_lt a b ≡ true
@@ -7,6 +7,12 @@ lt_below a b h = grind (arith, nat_tests)
 
 pub lt_not_below : (a b : ℕ) → b ≤ a → nat_lt a b ≡ false
 lt_not_below a b h = grind (arith, nat_tests, h)
+
+pub le_below : (a b : ℕ) → a ≤ b → nat_le a b ≡ true
+le_below a b h = grind (arith, nat_tests)
+
+pub le_not_below : (a b : ℕ) → b < a → nat_le a b ≡ false
+le_not_below a b h = grind (arith, nat_tests)
 
 pub lt_suc : (a b : ℕ) → nat_lt (suc a) (suc b) ≡ nat_lt a b
 lt_suc a b = grind (arith, nat_tests)

@@ -38,3 +38,13 @@ each_of_four P a b c d (suc zero) below = b
 each_of_four P a b c d (suc (suc zero)) below = c
 each_of_four P a b c d (suc (suc (suc zero))) below = d
 each_of_four P a b c d (suc (suc (suc (suc i)))) below = absurd (omega arith)
+
+-- what holds of eight numbers, one by one
+pub each_of_eight : (P : ℕ → Type 0) → P 0 → P 1 → P 2 → P 3 → P 4 → P 5 → P 6 → P 7 →
+    (i : ℕ) → i < 8 → P i
+each_of_eight P a b c d e f g h zero below = a
+each_of_eight P a b c d e f g h (suc zero) below = b
+each_of_eight P a b c d e f g h (suc (suc zero)) below = c
+each_of_eight P a b c d e f g h (suc (suc (suc zero))) below = d
+each_of_eight P a b c d e f g h (suc (suc (suc (suc i)))) below =
+    each_of_four (λ k. P (suc (suc (suc (suc k))))) e f g h i (omega arith)

@@ -1,6 +1,7 @@
 -- Lists: those made from a function of the place, how long they are, what stands where, and when two
 -- are one.
-use Rattle.std.proofs.Common.{◌≡◌, ℕ, zero, suc, ◌<◌, List, [], ◌∷◌, ◌++◌, length, take, map, get_or, refl, sym, ap, ap₂, ◌∙◌, arith}
+use Rattle.std.proofs.Common.{◌≡◌, ℕ, zero, suc, ◌+◌, ◌-◌, ◌<◌, ◌≤◌, List, [], ◌∷◌, ◌++◌, length, take, drop, map, get_or, refl, sym, ap, ap₂, ◌∙◌, arith}
+use Rattle.std.proofs.lemmas.List.{drop-take, take-take}
 use Rattle.std.specs.Prelude.{slice_get, Some}
 use Rattle.hv_lemmas.specs.Lists.{tabulate}
 
@@ -68,3 +69,13 @@ pub maps_same : {A B : Type 0} (f g : A → B) (xs : List A) → ((x : A) → f 
     map f xs ≡ map g xs
 maps_same f g [] same = refl
 maps_same f g (x ∷ xs) same = ap₂ (λ y ys. y ∷ ys) (same x) (maps_same f g xs same)
+
+-- a part of the front of a list is one of the list
+pub part_of_front : {A : Type 0} (j c n : ℕ) (xs : List A) → j + c ≤ n →
+    take c (drop j (take n xs)) ≡ take c (drop j xs)
+part_of_front j c n xs inside =
+    let rest : ℕ = n - j in
+    let whole : n ≡ j + rest = omega (arith, inside) in
+    ap (λ (m : ℕ). take c (drop j (take m xs))) whole ∙
+    ap (take c) (drop-take j rest xs) ∙
+    take-take c rest (drop j xs) (omega (arith, inside))

@@ -3,10 +3,10 @@
 use Rattle.std.proofs.Common.{◌≡◌, ℕ, zero, suc, ◌+◌, ◌-◌, ◌*◌, ◌/◌, ◌<◌, ◌≤◌, List, [], ◌∷◌, ◌++◌, length, take, drop, refl, sym, ap, ap₂, ◌∙◌, arith, length-drop}
 use Rattle.std.specs.Prelude.{Option, Some}
 use Rattle.std.proofs.Math.Nat.{le-div_iff_mul-le}
-use Rattle.std.proofs.lemmas.List.{drop-drop, drop-take, take-take, length-take-le}
+use Rattle.std.proofs.lemmas.List.{drop-drop, length-take-le}
 use Rattle.std.proofs.lemmas.Nat.{row_fits}
 use Rattle.hv_lemmas.specs.Lists.{tabulate}
-use Rattle.hv_lemmas.proofs.ListLemmas.{tabulate-same, tabulate_push}
+use Rattle.hv_lemmas.proofs.ListLemmas.{part_of_front, tabulate-same, tabulate_push}
 use Rattle.hv_types.specs.declared.settings.Settings.{Settings}
 use Rattle.hv_types.specs.declared.picture.Picture.{Picture}
 use Rattle.hv_types.specs.Samples.{plane_by_rows}
@@ -17,16 +17,6 @@ use Rattle.hv_serial.specs.Steps.{Took}
 use Rattle.hv_serial.proofs.ReadingLemmas.{one_told, next_place, places, quotient, read_front}
 
 -- ---- lists
-
--- a part of the front of a list is one of the list
-part_of_front : (j c n : ℕ) (xs : List ℕ) → j + c ≤ n →
-    take c (drop j (take n xs)) ≡ take c (drop j xs)
-part_of_front j c n xs inside =
-    let rest : ℕ = n - j in
-    let whole : n ≡ j + rest = omega (arith, inside) in
-    ap (λ (m : ℕ). take c (drop j (take m xs))) whole ∙
-    ap (take c) (drop-take j rest xs) ∙
-    take-take c rest (drop j xs) (omega (arith, inside))
 
 take-tabulate : {A : Type 0} (k n : ℕ) (f : ℕ → A) → k ≤ n →
     take k (tabulate n f) ≡ tabulate k f

@@ -1,9 +1,9 @@
 -- What is seen of the blocks around (6.4.1) is what is seen of the units beside a block.
 use Rattle.std.proofs.Common.{◌≡◌, ℕ, ◌+◌, ◌-◌, ◌*◌, ◌<◌, ◌≤◌, Bool, true, false, nat_lt, nat_eq, List, refl, ◌∙◌, arith, inl, inr}
 use Rattle.std.specs.Prelude.{nat_le, ◌&&◌, ◌||◌, ◌⊎◌, slice_index_or}
-use Rattle.std.proofs.lemmas.Bool.{cases_lt, ltb-true, true≢false, leb-false, or_parts}
+use Rattle.std.proofs.lemmas.Bool.{cases_lt, ltb-true, leb-false, or_parts}
 use Rattle.std.proofs.lemmas.Bool.Decides.{nat_tests}
-use Rattle.hv_lemmas.proofs.ComparisonLemmas.{lt_below, lt_not_below, other_than_0}
+use Rattle.hv_lemmas.proofs.ComparisonLemmas.{le_below, le_not_below, lt_below, lt_not_below, other_than_0}
 use Rattle.hv_lemmas.proofs.ComputedLemmas.{all_below, holds_below}
 use Rattle.hv_tree_model.specs.Sites.{Site, ctb_column, ctb_row, address_of, column_of, row_of, is_outside}
 use Rattle.hv_tree_model.specs.EarlierUnits.{Square, Unavailable}
@@ -12,13 +12,6 @@ use Rattle.hv_unit_model.proofs.GeometryLemmas.{place_of_address, address_of_pla
 use Rattle.hv_syntax.specs.declared.block.Block.{Block}
 use Rattle.hv_syntax.specs.Blocks.{plan_of, place_of, seen_left, seen_above, AreBeside, Sees}
 use Rattle.hv_syntax.specs.Squares.{own_square, Shows}
-
--- ---- tests
-le_below : (a b : ℕ) → a ≤ b → nat_le a b ≡ true
-le_below a b h = grind (arith, nat_tests)
-
-le_not_below : (a b : ℕ) → b < a → nat_le a b ≡ false
-le_not_below a b h = grind (arith, nat_tests)
 
 -- ---- where a square is
 pub record Inside (site : Site) (address : ℕ) : Type 0 where

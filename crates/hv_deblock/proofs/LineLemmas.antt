@@ -1,7 +1,6 @@
 -- Lines behind the normal filter (8.7.2.5.7).
 use Rattle.std.proofs.Common.{◌≡◌, ℕ, ◌*◌, ◌<◌, Bool, true, false, cond, nat_lt, ◌&&◌, refl, sym, ap, ◌∙◌, ℤ}
 use Rattle.std.specs.Int.RustNames.{unsigned_abs}
-use Rattle.hv_deblock_model.specs.declared.line.Side.{Side}
 use Rattle.hv_deblock_model.specs.declared.line.Line.{Line}
 use Rattle.hv_deblock_model.specs.EdgeFilters.{clip_to, luma_step, stepped_line, normal_line}
 use Rattle.hv_lemmas.proofs.ComparisonLemmas.{lt_below}

@@ -1,6 +1,6 @@
 -- A pass of the code, segment after segment, is the pass of the formulas: no segment reads what
 -- another one writes (8.7.2).
-use Rattle.std.proofs.Common.{◌≡◌, ℕ, ◌+◌, ◌-◌, ◌*◌, ◌/◌, ◌%◌, ◌<◌, ◌≤◌, Bool, true, false, cond, nat_lt, ◌&&◌, ⊎_elim, refl, sym, ◌∙◌, ap, ap₂, subst, arith}
+use Rattle.std.proofs.Common.{◌≡◌, ℕ, ◌+◌, ◌-◌, ◌*◌, ◌/◌, ◌%◌, ◌<◌, ◌≤◌, true, false, cond, nat_lt, ◌&&◌, ⊎_elim, refl, sym, ◌∙◌, ap, ap₂, subst, arith}
 use Rattle.std.proofs.lemmas.Bool.{cases_lt, eqb-true}
 use Rattle.hv_lemmas.proofs.ComparisonLemmas.{lt_below, lt_not_below, lt_zero}
 use Rattle.hv_types.specs.Samples.{Plane, IsWhole}

@@ -1,10 +1,9 @@
 -- Lines that are read from a plane while it is filtered, and edges that change nothing.
-use Rattle.std.proofs.Common.{◌≡◌, ℕ, zero, suc, ◌+◌, ◌-◌, ◌*◌, ◌%◌, ◌<◌, ◌≤◌, Bool, true, false, cond, nat_eq, ◌&&◌, refl, sym, ◌∙◌, ap, ap₂, subst, arith}
+use Rattle.std.proofs.Common.{◌≡◌, ℕ, zero, suc, ◌+◌, ◌-◌, ◌*◌, ◌%◌, ◌<◌, ◌≤◌, Bool, true, false, cond, nat_eq, ◌&&◌, refl, sym, ◌∙◌, ap, subst, arith}
 use Rattle.std.specs.Prelude.{not}
 use Rattle.hv_lemmas.proofs.ComparisonLemmas.{other_than_0}
 use Rattle.hv_types.specs.Samples.{Plane, IsWhole}
 use Rattle.hv_tables.specs.Quantisers.{chroma_qp}
-use Rattle.hv_deblock_model.specs.declared.line.Side.{Side}
 use Rattle.hv_deblock_model.specs.declared.line.Line.{Line}
 use Rattle.hv_deblock_model.specs.EdgeFilters.{beta, tc, is_filtered, is_strong, is_smooth, strong_line, normal_line, chroma_line}
 use Rattle.hv_deblock_model.specs.Deblocking.{Samples, line_at, line_sample}

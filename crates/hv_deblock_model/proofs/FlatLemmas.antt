@@ -6,10 +6,8 @@ use Rattle.std.specs.Int.{int_shr}
 use Rattle.std.proofs.lemmas.Int.{ints, clamps}
 use Rattle.std.proofs.lemmas.Bool.Decides.{nat_tests}
 use Rattle.hv_lemmas.specs.Clipping.{clip1}
-use Rattle.hv_lemmas.proofs.ListLemmas.{tabulate-same}
-use Rattle.std.specs.List.{concat}
 use Rattle.hv_tables.specs.Quantisers.{chroma_qp}
-use Rattle.hv_types.specs.Samples.{Plane, plane_by_rows, plane_of, filled_plane, sample_at, IsWhole, HasByteSamples}
+use Rattle.hv_types.specs.Samples.{Plane, filled_plane, sample_at, IsWhole, HasByteSamples}
 use Rattle.hv_types.proofs.SampleLemmas.{sample_at-filled_plane, IsPlane-plane_of, All-rows, plane_same}
 use Rattle.hv_filter_model.specs.SampleAdaptiveOffset.{sao_picture}
 use Rattle.hv_filter_model.proofs.OffLemmas.{clip1_same, picture_same, off_changes_nothing}

@@ -1,5 +1,5 @@
 -- What holds of the structure of each count and number of levels: found by computing all of them.
-use Rattle.std.proofs.Common.{◌≡◌, ℕ, ◌+◌, ◌<◌, Bool, true, cond, nat_eq, nat_lt, ◌&&◌, List, [], ◌∷◌, length, map, slice_index_or, refl, ap, sym, ◌∙◌, ◌-◌, ◌≤◌, arith, inl, inr, eqb-true}
+use Rattle.std.proofs.Common.{◌≡◌, ℕ, ◌+◌, ◌<◌, Bool, true, cond, nat_eq, nat_lt, ◌&&◌, List, [], ◌∷◌, length, map, slice_index_or, refl, ◌-◌, ◌≤◌, arith, inl, inr, eqb-true}
 use Rattle.std.specs.Prelude.{◌⊎◌}
 use Rattle.std.proofs.lemmas.Bool.{and_parts, cases_lt, ltb-true}
 use Rattle.std.specs.List.{list_all}
@@ -8,7 +8,7 @@ use Rattle.hv_group_model.specs.Structure.{Coded, coded, coding, place_in, falli
 use Rattle.hv_decision.specs.declared.row.Life.{Life}
 use Rattle.hv_decision.specs.Sets.{life_in, is_kept_at}
 use Rattle.hv_lemmas.proofs.ComputedLemmas.{holds_at}
-use Rattle.hv_group_model.proofs.NumberListLemmas.{below_all, rising_at, length-rising, in_range}
+use Rattle.hv_group_model.proofs.NumberListLemmas.{below_all, in_range}
 use Rattle.hv_decision.proofs.ListLemmas.{all-map}
 
 -- how many of these lives are kept at a place

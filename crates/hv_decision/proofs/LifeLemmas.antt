@@ -1,9 +1,9 @@
 -- A picture is kept just in its life; and lives as a walk backwards over the coding order finds them,
 -- for the code's reference picture sets (8.3.2).
-use Rattle.std.proofs.Common.{◌≡◌, ℕ, zero, suc, ◌+◌, ◌≤◌, ◌∙◌, sym, ap, ap₂, Bool, true, false, refl, List, [], ◌∷◌, length, arith, cond, nat_eq, nat_lt, ◌&&◌, ◌||◌, take, drop}
+use Rattle.std.proofs.Common.{◌≡◌, ℕ, zero, suc, ◌+◌, ◌≤◌, ◌∙◌, sym, ap, ap₂, Bool, true, false, refl, List, ◌∷◌, length, arith, cond, nat_eq, nat_lt, ◌&&◌}
 use Rattle.hv_lemmas.proofs.ComparisonLemmas.{zero_lt_suc}
 use Rattle.std.specs.List.{list_any}
-use Rattle.hv_group_model.specs.Structure.{Coded, place_in, is_among, is_referred, is_kept}
+use Rattle.hv_group_model.specs.Structure.{Coded, place_in, is_kept}
 use Rattle.hv_decision.specs.declared.row.Life.{Life}
 use Rattle.hv_group_model.specs.Lives.{until_in}
 use Rattle.hv_group_model.proofs.LifeLemmas.{is_among-take, is_referred-drop, until_step, until_more}

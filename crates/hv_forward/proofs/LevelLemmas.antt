@@ -1,7 +1,7 @@
 -- Levels of eight coefficients, lane by lane.
 use Rattle.std.proofs.Common.{All, Bool, List, [], add-one, ap, ap₂, arith, cond, drop, false, length, map, nat_lt, negsuc, pos, refl, replicate, suc, sym, take, true, zero, ℕ, ℤ, ◌%◌, ◌*ℤ◌, ◌*◌, ◌++◌, ◌+ℤ◌, ◌+◌, ◌-◌, ◌/◌, ◌<◌, ◌^◌, ◌∙◌, ◌∷◌, ◌≡◌, ◌≤◌}
 use Rattle.std.specs.Int.RustNames.{unsigned_abs}
-use Rattle.std.proofs.lemmas.Int.{fits_signed_from_abs, int_wrap_fits, ints, to_z-of_z, unsigned_abs-mul, wrapping_add-bits, wrapping_add_is, wrapping_mul_is}
+use Rattle.std.proofs.lemmas.Int.{int_wrap_fits, ints, to_z-of_z, unsigned_abs-mul, wrapping_add-bits, wrapping_add_is, wrapping_mul_is}
 use mir.Syntax.{lt, mask, shr, signed, w16, w32, wrap_add, wrap_mul}
 use mir.Val.{SFits, hbits, of_z, to_z}
 use lib.Lanes.{put_chunk, sel_l, top, zip2}

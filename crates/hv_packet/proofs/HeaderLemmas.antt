@@ -1,5 +1,5 @@
 -- The slice header of a picture of a group, and what it says.
-use Rattle.std.proofs.Common.{◌≡◌, ℕ, zero, suc, ◌+◌, ◌*◌, List, length, refl, ap, ap₂, ◌∙◌, arith}
+use Rattle.std.proofs.Common.{◌≡◌, ℕ, zero, suc, ◌*◌, List, length, refl, ap₂, ◌∙◌, arith}
 use Rattle.hv_types.specs.declared.settings.Settings.{Settings}
 use Rattle.hv_tables.specs.declared.bins.SliceKind.{SliceKind}
 use Rattle.hv_tables.specs.declared.bins.SliceKind.TheVariants.{I, P}
@@ -10,7 +10,7 @@ use Rattle.hv_stream_model.specs.Headers.{SliceHeader, slice_header_of, used_cou
 use Rattle.hv_stream_model.specs.Units.{TRAIL_R, IDR_N_LP, unit_bytes}
 use Rattle.hv_entropy_model.specs.CodeWord.{word}
 use Rattle.hv_tree_model.specs.Trees.{CodingTreeUnit}
-use Rattle.hv_tree_model.specs.Sites.{Site, sites, sites_from, blocks_over}
+use Rattle.hv_tree_model.specs.Sites.{Site, sites, blocks_over}
 use Rattle.hv_tree_model.specs.Validity.{AreValid}
 use Rattle.hv_unit_model.specs.Bins.{slice_bins}
 use Rattle.hv_slice_model.specs.Slices.{nal_unit_type_of, header_fields, header_in, picture_sites, word_behind, payload_of_slice, unit_of_slice}

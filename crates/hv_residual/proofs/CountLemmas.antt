@@ -4,7 +4,6 @@ use Rattle.std.proofs.Math.Pow.{pow_mono}
 use Rattle.std.specs.Int.Count.{count_leading_zeros}
 use Rattle.std.proofs.lemmas.Nat.{leading_top}
 use Rattle.std.proofs.lemmas.List.{length-map}
-use Rattle.std.proofs.lemmas.Bool.Decides.{nat_tests}
 use Rattle.std.proofs.lemmas.Bool.{leb-true, leb-false}
 use Rattle.hv_lemmas.proofs.ComparisonLemmas.{lt_below, lt_not_below, zero_lt_suc}
 use Rattle.hv_residual_model.proofs.LevelLemmas.{as_many_signs}

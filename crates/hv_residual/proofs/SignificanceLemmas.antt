@@ -3,7 +3,6 @@ use Rattle.std.proofs.Common.{◌&&◌, not, nat_eq, length-drop, ◌≡◌, ◌
 use Rattle.std.specs.Int.{is_negative}
 use Rattle.std.specs.Int.RustNames.{unsigned_abs}
 use Rattle.std.proofs.lemmas.List.{take-set, take_more_set}
-use mir.Val.{bool_byte}
 use Rattle.std.proofs.Math.Dec.{eqb-suc-zero}
 use Rattle.hv_residual_model.specs.UnitBins.{UnitQuestion, unit_bin}
 use Rattle.hv_residual_model.specs.ResidualBins.{magnitudes, signs, only_if_so, sig_coeff_bins}

@@ -2,7 +2,6 @@
 use Rattle.std.proofs.Common.{◌≡◌, ℕ, List, [], ◌∷◌, length, map, refl, ap, ap₂, ◌∙◌}
 use Rattle.std.specs.Prelude.{replicate}
 use Rattle.hv_lemmas.proofs.ListLemmas.{maps_same}
-use Rattle.hv_types.specs.declared.settings.Settings.{Settings}
 use Rattle.hv_types.specs.declared.settings.Emit.{Emit}
 use Rattle.hv_types.specs.declared.settings.Emit.TheVariants.{Stream, Recon}
 use Rattle.hv_types.specs.declared.picture.Picture.{Picture}

@@ -1,14 +1,14 @@
 -- A picture whose coding tree blocks are those that are chosen for it: what the in-loop filters
 -- (8.7) make of them, and their coding tree units, are those of the definition of a video.
-use Rattle.std.proofs.Common.{◌≡◌, ℕ, zero, suc, ◌+◌, ◌*◌, ◌<◌, ◌≤◌, List, [], ◌∷◌, length, map, refl, sym, ap, ap₂, ◌∙◌, subst, arith}
-use Rattle.std.specs.Prelude.{slice_get, slice_index_or, Some, is_some}
+use Rattle.std.proofs.Common.{◌≡◌, ℕ, zero, suc, ◌+◌, ◌*◌, List, [], ◌∷◌, length, refl, sym, ap, ap₂, ◌∙◌, subst, arith}
+use Rattle.std.specs.Prelude.{slice_get, Some, is_some}
 use Rattle.std.proofs.lemmas.Bool.{false≢true}
-use Rattle.std.proofs.lemmas.List.{length-map, get_or-map}
+use Rattle.std.proofs.lemmas.List.{length-map}
 use Rattle.hv_lemmas.proofs.OptionLemmas.{some_same}
 use Rattle.hv_tables.specs.declared.bins.SliceKind.TheVariants.{I}
 use Rattle.hv_types.specs.declared.picture.Picture.{Picture}
 use Rattle.hv_types.specs.Configuration.{padded_width, padded_height, columns, rows}
-use Rattle.hv_types.specs.Video.{pad, IsPadded}
+use Rattle.hv_types.specs.Video.{IsPadded}
 use Rattle.hv_types.specs.GroupInput.{GroupInput}
 use Rattle.hv_types.proofs.ConfigurationLemmas.{padded_width-whole, padded_height-whole}
 use Rattle.hv_plan.specs.declared.offsets.SaoParam.{SaoParam}
@@ -23,7 +23,6 @@ use Rattle.hv_recon_model.specs.Reconstruction.{Decoded, nothing_decoded, pictur
 use Rattle.hv_recon_model.specs.ReconstructionLaws.{AreTrees}
 use Rattle.hv_recon.specs.DecodedBlocks.{trees_from, trees_of, AreOfBlocks}
 use Rattle.hv_recon.proofs.PictureLemmas.{picture_is_of_blocks}
-use Rattle.hv_filter_model.specs.FlatPictures.{flat_picture}
 use Rattle.hv_filter_model.specs.SampleAdaptiveOffset.{sao_picture}
 use Rattle.hv_filter_model.specs.OffsetDecision.{picture_offsets}
 use Rattle.hv_deblock_model.specs.Deblocking.{deblocked_picture}
@@ -33,13 +32,13 @@ use Rattle.hv_filter.specs.FilteredPicture.{input_picture, picture_qp, working_p
 use Rattle.hv_filter.proofs.FilterLemmas.{joined_has_sides}
 use Rattle.hv_mode_model.specs.ModeDecision.{Task}
 use Rattle.hv_mode_model.proofs.ValidChoiceLemmas.{valid_trees_in}
-use Rattle.hv_slice_model.specs.Slices.{picture_sites, header_in, unit_of_slice}
+use Rattle.hv_slice_model.specs.Slices.{picture_sites, unit_of_slice}
 use Rattle.hv_slice_model.specs.PlannedUnits.{planned_units}
 use Rattle.hv_packet.specs.BlockPlans.{plan_of, plans_of, units_in}
 use Rattle.hv_packet.proofs.HeaderLemmas.{quantiser_in}
 use Rattle.hv_model.specs.Reconstruction.{no_vectors}
 use Rattle.hv_model.specs.PlannedPictures.{planned_trees, ArePlans}
-use Rattle.hv_model.specs.IntraPictures.{chosen_trees, working_picture, picture_sao, recon_picture, tree_units, coded_units, picture_unit, input_picture as padded_input}
+use Rattle.hv_model.specs.IntraPictures.{chosen_trees, working_picture, picture_sao, tree_units, coded_units, input_picture as padded_input}
 use Rattle.hv_model.proofs.IntraUnitLemmas.{intra_units_valid}
 use Rattle.hv_model.proofs.PlannedIntraLemmas.{deblocked_by_plans}
 use Rattle.hv_serial.specs.ChosenPictures.{slice_header, task_in, HaveUnits, AreBest, AreChosen, chosen_unit, chosen_picture}

@@ -6,7 +6,7 @@ use Rattle.std.proofs.lemmas.List.{get_or-replicate}
 use Rattle.std.proofs.lemmas.Option.{slice_get-get_or}
 use Rattle.hv_block.specs.Plans.{opening_unit}
 use Rattle.hv_plan.specs.declared.prediction.Unit.{Unit}
-use Rattle.hv_tree_model.specs.Trees.{Prediction, TransformUnit, Leaf, Split, Outside, depth_of, log2TrafoSize, transform_units}
+use Rattle.hv_tree_model.specs.Trees.{Split, Outside, depth_of, log2TrafoSize, transform_units}
 use Rattle.hv_tree_model.specs.Sites.{Site, squares, is_outside}
 use Rattle.hv_tree_model.specs.EarlierUnits.{Square, Unavailable, Coded, squares_of}
 use Rattle.hv_tree_model.specs.Plans.{Plan, prediction_of, coded_square, square_or_none, transform_units_at, tree_at}

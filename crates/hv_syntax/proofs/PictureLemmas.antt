@@ -1,6 +1,6 @@
 -- The blocks around a block, by the blocks of its picture, are as the definitions see them (6.4.1).
 use Rattle.std.proofs.Common.{◌≡◌, ℕ, zero, suc, ◌+◌, ◌-◌, ◌/◌, ◌%◌, ◌<◌, ◌≤◌, Bool, true, false, List, [], ◌∷◌, ◌++◌, length, take, map, refl, sym, ap, ◌∙◌, arith}
-use Rattle.std.specs.Prelude.{nat_lt, ◌&&◌, slice_get, Option, Some, None, is_some, option_map}
+use Rattle.std.specs.Prelude.{nat_lt, slice_get, Option, Some, None, is_some, option_map}
 use Rattle.std.proofs.lemmas.Bool.{false≢true, and_parts, ltb-true}
 use Rattle.std.proofs.lemmas.Option.{slice_get-map}
 use Rattle.hv_lemmas.proofs.ListLemmas.{length-tabulate, got_before, there_is}

@@ -1,10 +1,9 @@
 -- Whole numbers as magnitudes and signs.
-use Rattle.std.proofs.Common.{◌≡◌, zero, suc, ◌≤◌, true, false, refl, arith, ℤ, pos, negsuc, ltb-true}
+use Rattle.std.proofs.Common.{◌≡◌, zero, suc, refl, arith, ℤ, pos, negsuc}
 use Rattle.std.specs.Int.{is_negative}
 use Rattle.std.specs.Int.RustNames.{unsigned_abs}
 use Rattle.hv_lemmas.proofs.ComparisonLemmas.{lt_zero}
 use Rattle.hv_residual_model.specs.ResidualSyntax.{with_sign}
-use Rattle.hv_plan.specs.Levels.{has_16_bits, is_significant}
 
 pub with_own_sign : (z : ℤ) → with_sign (is_negative z) (unsigned_abs z) ≡ z
 with_own_sign (pos zero) = refl

@@ -1,9 +1,8 @@
 -- A wave never sticks: the first segment that isn't done is taken or ready, since it waits for earlier ones alone.
-use Rattle.std.proofs.Common.{◌≡◌, ℕ, zero, suc, ◌+◌, ◌-◌, ◌*◌, ◌/◌, ◌%◌, ◌<◌, ◌≤◌, ◌∙◌, ap, refl, min, length, arith, inl, inr}
+use Rattle.std.proofs.Common.{◌≡◌, ℕ, zero, suc, ◌+◌, ◌-◌, ◌*◌, ◌/◌, ◌%◌, ◌<◌, ◌≤◌, ap, refl, min, length, arith, inl, inr}
 use Rattle.std.specs.Prelude.{◌⊎◌}
-use Rattle.std.proofs.lemmas.Bool.{cases_lt}
 use Rattle.std.proofs.lemmas.Nat.{div-add-mod', mod_below}
-use Rattle.hv_wave.specs.Segments.{Stage, Waiting, Taken, Done, Wave, above, covering, column_behind, per_row, stage, IsReady, NoneIsReady, NoneIsTaken, WavesGoOn}
+use Rattle.hv_wave.specs.Segments.{Stage, Waiting, Taken, Done, Wave, above, covering, column_behind, per_row, stage, WavesGoOn}
 use Rattle.hv_wave.proofs.SegmentLemmas.{covering_behind}
 
 stage_cases : (x : Stage) → (x ≡ Waiting) ⊎ ((x ≡ Taken) ⊎ (x ≡ Done))

@@ -1,4 +1,4 @@
-use Rattle.std.proofs.Common.{◌≡◌, ◌<◌, ◌∙◌, sym, subst}
+use Rattle.std.proofs.Common.{◌<◌, ◌∙◌, sym, subst}
 use Rattle.hv_syntax.specs.Blocks.{lists_of}
 use Rattle.hv_syntax.proofs.NamingLemmas.{names_parts_back, outside_of_names}
 use Rattle.hv_syntax.proofs.NodeLemmas.{children}

@@ -1,4 +1,4 @@
-use Rattle.std.proofs.Common.{◌≡◌, ◌<◌, subst, sym}
+use Rattle.std.proofs.Common.{◌<◌, subst, sym}
 use Rattle.hv_syntax.specs.Blocks.{lists_of}
 use Rattle.hv_syntax.proofs.NamingLemmas.{names_leaf, depth_of_names, squares_of_names}
 use Rattle.hv_syntax.proofs.naming.names_leaf.Goals as goal

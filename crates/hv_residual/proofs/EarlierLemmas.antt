@@ -1,6 +1,7 @@
 -- What follows a sub-block, from what the code keeps of those before, and what it keeps then.
 use Rattle.std.proofs.Common.{add-one, drop, take, ◌≡◌, ◌≤◌, ◌<◌, ℕ, zero, suc, ◌+◌, ◌-◌, ◌*◌, Bool, true, false, cond, nat_eq, nat_lt, ◌&&◌, List, [], ◌∷◌, ◌++◌, ℤ, length, replicate, get_or, refl, ap, sym, ◌∙◌, arith, append_assoc}
 use Rattle.std.proofs.Math.Seq.{take-length}
+use Rattle.std.specs.Bool.{if◌then◌else◌}
 use Rattle.std.proofs.Math.Dec.{eqb-suc-zero}
 use Rattle.hv_residual_model.proofs.SubBlockLemmas.{as_many}
 use Rattle.hv_residual_model.specs.ScanOrder.{Position}

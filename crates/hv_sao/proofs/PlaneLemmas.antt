@@ -1,5 +1,5 @@
 -- Planes of which rows are written, a block after another.
-use Rattle.std.proofs.Common.{◌≡◌, ℕ, ◌+◌, ◌-◌, ◌*◌, ◌/◌, ◌%◌, ◌<◌, ◌≤◌, List, length, get_or, min, slice_set, ⊎_elim, refl, sym, ◌∙◌, ap, subst, arith, length-set}
+use Rattle.std.proofs.Common.{◌≡◌, ℕ, ◌+◌, ◌-◌, ◌*◌, ◌/◌, ◌%◌, ◌<◌, ◌≤◌, List, length, get_or, min, ⊎_elim, refl, sym, ◌∙◌, ap, ap₂, subst, arith}
 use Rattle.std.proofs.lemmas.List.{get_or_default}
 use Rattle.hv_plan.specs.declared.offsets.SaoComponent.{SaoComponent}
 use Rattle.hv_plan.specs.declared.offsets.SaoParam.{SaoParam}
@@ -7,31 +7,41 @@ use Rattle.hv_filter_model.specs.SampleAdaptiveOffset.{sao_sample, off_param}
 use Rattle.hv_sao.specs.declared.component.Component.{Component}
 use Rattle.hv_sao.specs.Components.{component_of}
 use Rattle.std.proofs.lemmas.Bool.{cases_lt}
-use Rattle.std.proofs.lemmas.Nat.{div-mul-add, mul-add-lt}
+use Rattle.std.proofs.lemmas.Nat.{div-mul-add}
 use Rattle.std.proofs.lemmas.Grind.{div_ceil_times}
 use Rattle.std.proofs.Math.Nat.{mul-le-mul_right, add-mul}
-use Rattle.hv_types.specs.Samples.{Plane, IsWhole, with_sample}
-use Rattle.hv_sao.specs.Rows.{IsRow, HasPart}
+use Rattle.hv_types.specs.Samples.{Plane, IsWhole, with_run}
+use Rattle.hv_sao.specs.Rows.{IsRow}
 use Rattle.hv_sao.specs.Planes.{IsWritten, number_at, block_sample}
-use Rattle.hv_sao.proofs.RowLemmas.{no_part, part_more, part_joined}
+use Rattle.hv_sao.proofs.RowLemmas.{no_part, length-part, part_put, length_with_part, part_joined}
 
 pub nothing_written : (x y : ℕ) (f : ℕ → ℕ) (p : Plane) → IsWritten x y 0 f p p
 nothing_written x y f p = record { wide = refl; high = refl; size = refl; part = no_part (y * p.width + x) f p.samples }
 
--- one sample more
-pub sample_written : (x y n k column v : ℕ) (f : ℕ → ℕ) (old new : Plane) → IsWhole old → y < old.height → column < old.width →
-    IsWritten x y n f old new → column ≡ x + n → k ≡ n + 1 → v ≡ f n → IsWritten x y k f old (with_sample new column y v)
-sample_written x y n k column v f old new whole down across h at is right =
-    let inside : y * old.width + column < old.width * old.height = mul-add-lt y old.width column old.height down across in
-    let place : y * new.width + column ≡ y * old.width + x + n = ap (λ w. y * w + column) h.wide ∙ omega arith in
-    let more : HasPart (y * old.width + x) k f old.samples (slice_set new.samples (y * old.width + x + n) v) =
-    part_more (y * old.width + x) n k v f old.samples new.samples h.part is (omega (arith, h.size, whole.count)) right in
-    record {
-      wide = h.wide;
-      high = h.high;
-      size = length-set new.samples (y * new.width + column) v ∙ h.size;
-      part = rw place more;
-    }
+-- a plane stays whole
+pub whole_written : (x y n : ℕ) (f : ℕ → ℕ) (old new : Plane) → IsWhole old →
+    IsWritten x y n f old new → IsWhole new
+whole_written x y n f old new whole h = record {
+  count = h.size ∙ whole.count ∙ sym (ap₂ (λ a b. a * b) h.wide h.high);
+  wide = subst (λ a. 0 < a) (sym h.wide) whole.wide;
+  high = subst (λ a. 0 < a) (sym h.high) whole.high;
+}
+
+-- a run of samples
+pub run_written : (x y n : ℕ) (values : List ℕ) (p : Plane) → IsWhole p → y < p.height →
+    length values ≡ n → x + n ≤ p.width →
+    IsWritten x y n (number_at values) p (with_run p x y values)
+run_written x y n values p whole down count across =
+    let inside : y * p.width + x + length values ≤ length p.samples =
+    length-part p p.samples p.width x y (length values) whole.count refl down
+    (omega (arith, across, count)) in
+    subst (λ k. IsWritten x y k (number_at values) p (with_run p x y values)) count
+    (record {
+      wide = refl;
+      high = refl;
+      size = length_with_part (y * p.width + x) values p.samples inside;
+      part = part_put (y * p.width + x) values p.samples inside;
+    })
 
 -- one part behind another
 pub part_written : (y n m k : ℕ) (f g : ℕ → ℕ) (old mid new : Plane) → IsWritten 0 y n f old mid → IsWritten n y m g mid new →

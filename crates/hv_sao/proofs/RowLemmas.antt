@@ -1,6 +1,6 @@
 -- Parts of rows of planes.
-use Rattle.std.proofs.Common.{◌≡◌, ℕ, ◌+◌, ◌-◌, ◌*◌, ◌<◌, ◌≤◌, List, length, get_or, slice_range, slice_set, ⊎_elim, refl, sym, ◌∙◌, ap, ap₂, arith}
-use Rattle.std.proofs.lemmas.List.{get_or-set_same, get_or-set_other}
+use Rattle.std.proofs.Common.{◌≡◌, ℕ, ◌+◌, ◌-◌, ◌*◌, ◌<◌, ◌≤◌, List, length, length-append, length-drop, take, drop, ◌++◌, get_or, slice_range, slice_set, ⊎_elim, refl, sym, ◌∙◌, ap, ap₂, arith}
+use Rattle.std.proofs.lemmas.List.{get_or-set_same, get_or-set_other, get_or-take, get_or-drop, get_or_append_left, get_or-append_right, length-take-le}
 use Rattle.std.proofs.lemmas.Bool.{cases_eq, cases_lt}
 use Rattle.std.proofs.lemmas.List.Edits.{length-between, get_or-between}
 use Rattle.std.proofs.lemmas.Nat.{row_fits_turned}
@@ -30,21 +30,6 @@ no_part lead f xs = record {
   part = λ i below. absurd (omega arith);
   before = λ k below. refl;
   behind = λ k above. refl;
-}
-
-pub part_more : (lead count n v : ℕ) (f : ℕ → ℕ) (old new : List ℕ) → HasPart lead count f old new → n ≡ count + 1 →
-    lead + count < length new → v ≡ f count → HasPart lead n f old (slice_set new (lead + count) v)
-part_more lead count n v f old new h is room right = record {
-  part = λ i below.
-      ⊎_elim
-      (λ less. get_or-set_other new (lead + count) (lead + i) v 0 (λ e. omega arith) ∙ h.part i less)
-      (λ last.
-      let same : i ≡ count = omega arith in
-      ap (λ k. get_or (slice_set new (lead + count) v) (lead + k) 0) same
-      ∙ get_or-set_same new (lead + count) v 0 room ∙ right ∙ ap f (sym same))
-      (cases_lt i count);
-  before = λ k below. get_or-set_other new (lead + count) k v 0 (λ e. omega arith) ∙ h.before k below;
-  behind = λ k above. get_or-set_other new (lead + count) k v 0 (λ e. omega arith) ∙ h.behind k (omega arith);
 }
 
 -- a part of which more and more is there
@@ -83,6 +68,42 @@ part_whole lead n count f old new h all = record {
   before = h.before;
   behind = h.behind;
 }
+
+-- numbers put in the place of others
+pub length_with_part : (lead : ℕ) (values old : List ℕ) → lead + length values ≤ length old →
+    length (take lead old ++ values ++ drop (lead + length values) old) ≡ length old
+length_with_part lead values old inside =
+    omega (
+      arith,
+      length-append (take lead old ++ values) (drop (lead + length values) old),
+      length-append (take lead old) values,
+      length-take-le lead old (omega (arith, inside)),
+      length-drop (lead + length values) old,
+    )
+
+pub part_put : (lead : ℕ) (values old : List ℕ) → lead + length values ≤ length old →
+    HasPart lead (length values) (λ i. get_or values i 0) old
+    (take lead old ++ values ++ drop (lead + length values) old)
+part_put lead values old inside =
+    let front : length (take lead old) ≡ lead = length-take-le lead old (omega (arith, inside)) in
+    let begun : List ℕ = take lead old ++ values in
+    let rest : List ℕ = drop (lead + length values) old in
+    let end : length begun ≡ lead + length values =
+    omega (arith, front, length-append (take lead old) values) in
+    record {
+      part = λ i below.
+          get_or_append_left begun rest 0 (lead + i) (omega (arith, end, below))
+          ∙ get_or-append_right (take lead old) values lead (lead + i) 0 front (omega arith)
+          ∙ ap (λ k. get_or values k 0) (omega arith);
+      before = λ k below.
+          get_or_append_left begun rest 0 k (omega (arith, end, below))
+          ∙ get_or_append_left (take lead old) values 0 k (omega (arith, front, below))
+          ∙ get_or-take lead old k 0 below;
+      behind = λ k above.
+          get_or-append_right begun rest (lead + length values) k 0 end above
+          ∙ get_or-drop (lead + length values) old (k - (lead + length values)) 0
+          ∙ ap (λ n. get_or old n 0) (omega (arith, above));
+    }
 
 -- one part behind another
 pub part_joined : (lead n m k next : ℕ) (f g : ℕ → ℕ) (old mid new : List ℕ) → HasPart lead n f old mid → HasPart next m g mid new →

@@ -1,32 +1,18 @@
 //! Offsets over a picture.
 
 ghost use Rattle.std.specs.Prelude.{◌≡◌, ℕ, ◌+◌, ◌-◌, ◌*◌, ◌/◌, ◌<◌, ◌≤◌, All, length, map};
-ghost use Rattle.hv_types.specs.Samples.{IsWhole, IsPlane};
+ghost use Rattle.hv_types.specs.Samples.{IsPlane};
 ghost use Rattle.hv_types.specs.Video.{IsPicture};
 ghost use Rattle.hv_filter_model.specs.Blocks.{luma_side, blocks_over};
 ghost use Rattle.hv_filter_model.specs.SampleAdaptiveOffset.{IsValidParam, sao_plane, sao_picture};
 ghost use Rattle.hv_sao.specs.Components.{component_of};
-ghost use Rattle.hv_sao.specs.Planes.{IsWritten, number_at, block_sample};
+ghost use Rattle.hv_sao.specs.Planes.{IsWritten, block_sample};
 
 use crate::component::Component;
 use crate::rows::fill_row;
 use crate::sides::{CHROMA_SIDE, LUMA_SIDE};
 use hv_plan::SaoParam;
 use hv_types::{Picture, Plane};
-
-/// Puts samples into row `y` in the columns `from` to `to`, and leaves every other sample.
-fn write_row(plane: &mut Plane, y: u32, from: u32, to: u32, samples: &[u8])
-    requires whole { IsWhole plane.old }
-    requires down { y < plane.old.height }
-    requires order { from ≤ to }
-    requires across { to ≤ plane.old.width }
-    requires count { length samples.now ≡ to - from }
-    ensures { IsWritten from y (to - from) (number_at samples.now) plane.old plane.new }
-{
-    for x in from..to {
-        plane.set(x, y, samples[(x - from) as usize]);
-    }
-}
 
 /// Writes row `y` with its offsets. Its blocks have this side, and their choices stand from place
 /// `first` on.
@@ -56,7 +42,7 @@ fn apply_row(
         let part = &mut row[..(to - from) as usize];
         let choice = component.of(sao[first + column as usize]);
         fill_row(choice, deblocked, y, from, to, part);
-        write_row(shown, y, from, to, part);
+        shown.set_run(from, y, part);
     }
 }
 

@@ -1,5 +1,5 @@
-//! Single samples: their categories, and what they are with an offset. All is chosen without tables,
-//! so that a compiler can do it for many samples at once.
+//! Single samples: their categories, and what they are with an offset. All is chosen without
+//! tables, so that a compiler can do it for many samples at once.
 
 ghost use Rattle.std.specs.Prelude.{◌≡◌, ◌≤◌, ◌<◌, ◌/◌, ◌∷◌, [], slice_index_or, Some, pos, ◌+ℤ◌};
 ghost use Rattle.hv_lemmas.specs.Clipping.{clip1};

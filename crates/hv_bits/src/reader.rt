@@ -5,13 +5,16 @@ ghost use Rattle.hv_stream_model.specs.Bits.{number_of, bits_of};
 ghost use Rattle.hv_stream_model.specs.Fields.{U, Ue, leading_zeros, read_field};
 
 use std::marker::Model;
+use thiserror::Error;
 
 /// Why bits were not read.
-#[derive(Clone, Copy, Debug, PartialEq, Eq)]
+#[derive(Clone, Copy, Debug, PartialEq, Eq, Error)]
 pub enum BitsError {
     /// Fewer bits are left than the value needs.
+    #[error("too few bits are left")]
     EndOfBits,
     /// The next 33 bits are zeros: an Exp-Golomb number would have more than 32 of them in front.
+    #[error("an Exp-Golomb number has more than 32 zeros in front")]
     TooLong,
 }
 

@@ -9,7 +9,7 @@ use Rattle.hv_words.specs.declared.refusal.WordsError.{WordsError}
 use Rattle.hv_words.specs.declared.refusal.WordsError.TheVariants as words
 use Rattle.hv_words.specs.Answers.{IsLine}
 use Rattle.hv_words.specs.CommandLine.{Refusal, no_command_line, faulty, not_built}
-use Rattle.hv_words.specs.Texts.{fault_text}
+use Rattle.hv_types.specs.Texts.{fault_text}
 use Rattle.hv_serial.specs.declared.answers.Totals.{Totals}
 use Rattle.hv_serial.specs.declared.answers.EncodeError.{EncodeError}
 use Rattle.hv_serial.specs.declared.answers.EncodeError.TheVariants.{ReadFault, ShortPicture, WriteFault, NoMemory, TooLong}

@@ -11,7 +11,7 @@ ghost use Rattle.hv_run.specs.Report.{error_line as error_line_of, totals_line a
 use arrayvec::ArrayString;
 use hv_serial::{EncodeError, Totals, write_all};
 use hv_types::{ConfigError, Failed, Sink};
-use hv_words::{WordsError, fault_text};
+use hv_words::WordsError;
 use itoa::Buffer;
 
 /// The most bytes of a number: its digits, and a sign, of 128 bits.
@@ -122,7 +122,7 @@ fn config_line(error: ConfigError) -> Line
     ensures { result.bytes ≡ config_line_of error }
 {
     let mut line = Line::new();
-    line.push_str(fault_text(error));
+    line.push_str(error.text());
     line.push_str("\n");
     line
 }

@@ -5,6 +5,7 @@ pub mod Outside
 pub mod OutsideLaws
 pub mod Samples
 pub mod SettingsLaws
+pub mod Texts
 pub mod Video
 pub mod VideoLaws
 pub mod Standard

@@ -1,9 +1,11 @@
 //! The two answers without a content.
 
 use std::alloc::{AllocError, AllocFailed};
+use thiserror::Error;
 
 /// There was not enough memory.
-#[derive(Clone, Copy, Debug, PartialEq, Eq)]
+#[derive(Clone, Copy, Debug, PartialEq, Eq, Error)]
+#[error("no memory")]
 pub struct NoMemory;
 
 impl From<AllocError> for NoMemory {
@@ -19,5 +21,6 @@ impl<T: Drop> From<AllocFailed<T>> for NoMemory {
 }
 
 /// A read or a write failed.
-#[derive(Clone, Copy, Debug, PartialEq, Eq)]
+#[derive(Clone, Copy, Debug, PartialEq, Eq, Error)]
+#[error("a read or a write failed")]
 pub struct Failed;

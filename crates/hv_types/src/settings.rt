@@ -4,6 +4,7 @@ ghost use Rattle.std.specs.Prelude.{◌≡◌, ◌≤◌, ◌<◌, ◌%◌, ◌*
 ghost use Rattle.hv_types.specs.Configuration.{fault_of, padded_width, padded_height, columns, rows, picture_bytes, picture_bytes_of, field_out_of_range, IsValid};
 
 use std::marker::Model;
+use thiserror::Error;
 
 /// What is written out.
 #[derive(Clone, Copy, Debug, PartialEq, Eq, Hash)]
@@ -60,16 +61,36 @@ pub enum Field {
 }
 
 /// Why settings are refused.
-#[derive(Clone, Copy, Debug, PartialEq, Eq, Hash)]
+#[derive(Clone, Copy, Debug, PartialEq, Eq, Hash, Error)]
 pub enum ConfigError {
     /// The width or the height is odd.
+    #[error("{text}", text = self.text())]
     OddSize,
     /// The width is not in 8 to 4096, or the height is not in 8 to 2176.
+    #[error("{text}", text = self.text())]
     SizeRange,
     /// A group has more than 2^28 luma samples.
+    #[error("{text}", text = self.text())]
     GroupTooLarge,
     /// This field is the first that is out of its range.
+    #[error("{text}", text = self.text())]
     OutOfRange { field: Field },
+}
+
+impl ConfigError {
+    ghost use Rattle.hv_types.specs.Texts.{fault_text};
+
+    /// What is told of settings with this fault, without a line feed.
+    pub fn text(self) -> &'static str
+        ensures { result.now ≡ fault_text self }
+    {
+        match self {
+            ConfigError::OddSize => "odd size",
+            ConfigError::SizeRange => "size out of range",
+            ConfigError::GroupTooLarge => "group too large",
+            ConfigError::OutOfRange { field: _ } => "value out of range",
+        }
+    }
 }
 
 /// The most temporal levels above the lowest.

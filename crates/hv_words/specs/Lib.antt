@@ -1,4 +1,3 @@
 pub mod Answers
 pub mod Command
 pub mod CommandLine
-pub mod Texts

@@ -7,5 +7,5 @@ mod refusal;
 mod tests;
 mod words;
 
-pub use refusal::{WordsError, fault_text};
+pub use refusal::WordsError;
 pub use words::config_of_words;

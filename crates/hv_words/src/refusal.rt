@@ -4,7 +4,6 @@ ghost use Rattle.std.specs.Prelude.{◌≡◌, ◌≢◌, IfOk, string_bytes};
 ghost use Rattle.clap.specs.Values.{kind_of};
 ghost use Rattle.clap.specs.declared.error.kind.ErrorKind.TheVariants.{OutOfMemory};
 ghost use Rattle.hv_words.specs.Answers.{HasLine, IsLine, Rejects};
-ghost use Rattle.hv_words.specs.Texts.{fault_text};
 
 use clap::error::ErrorKind;
 use hv_types::ConfigError;
@@ -19,7 +18,7 @@ pub enum WordsError {
     #[error("{text}")]
     Parse { text: String },
     /// The settings that they ask for have this fault.
-    #[error("{line}", line = fault_text(*.error))]
+    #[error("{error}")]
     Config { error: ConfigError },
     /// The settings have no fault, and aren't built yet.
     #[error("not built")]
@@ -36,18 +35,6 @@ impl From<AllocError> for WordsError {
 
     fn from(_error: AllocError) -> WordsError {
         WordsError::NoMemory
-    }
-}
-
-/// The text on settings with a fault, which has no line feed.
-pub fn fault_text(error: ConfigError) -> &'static str
-    ensures { result.now ≡ fault_text error }
-{
-    match error {
-        ConfigError::OddSize => "odd size",
-        ConfigError::SizeRange => "size out of range",
-        ConfigError::GroupTooLarge => "group too large",
-        ConfigError::OutOfRange { field: _ } => "value out of range",
     }
 }
 

@@ -1,4 +1,4 @@
--- The texts of the report on settings that are refused.
+-- What is told of settings that are refused.
 use Rattle.std.specs.Prelude.{ℕ, List, codes}
 use Rattle.hv_types.specs.declared.settings.ConfigError.{ConfigError}
 use Rattle.hv_types.specs.declared.settings.ConfigError.TheVariants.{OddSize, SizeRange, GroupTooLarge, OutOfRange}

@@ -1,12 +1,14 @@
 //! The same program as `crates/hv_speed` in plain Rust: loops over rows of fixed length, which the
 //! compiler turns into vector instructions as well as it can, and the writers of bits and of NAL
 //! units as `crates/hv_bits` has them; intra prediction as `crates/hv_intra` has it, and transforms
-//! as two passes of dot products. Levels, coding tree units and deblocking are in
-//! files of their own.
+//! as two passes of dot products. Levels, coding tree units, deblocking and
+//! sample adaptive offsets are in files of their own.
 mod cabac;
 mod edges;
 mod hand;
+mod leaves;
 mod levels;
+mod offsets;
 mod units;
 
 use std::env;
@@ -1106,5 +1108,7 @@ fn main() -> ExitCode {
     levels::print_checksums(name, rounds);
     units::print_checksums(name, rounds);
     edges::print_checksums(name, rounds);
+    offsets::print_checksums(name, rounds);
+    leaves::print_checksums(name, rounds);
     ExitCode::SUCCESS
 }

@@ -162,7 +162,7 @@ fn deblock_once(picture: &mut Picture, edges: &Edges)
 }
 
 /// The sum of some samples of a plane.
-fn sum_of(plane: &Plane) -> u64 {
+pub fn sum_of(plane: &Plane) -> u64 {
     let samples = plane.samples();
     let mut sum = 0u64;
     for part in samples.chunks(SAMPLED) {

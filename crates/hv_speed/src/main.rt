@@ -6,11 +6,14 @@
 ghost use Rattle.hv_types.specs.Video.{IsPicture};
 
 mod bits;
+mod choices;
 mod edges;
 mod inter;
 mod intra;
 mod kernel;
+mod leaves;
 mod levels;
+mod offsets;
 mod pictures;
 mod streams;
 mod transforms;
@@ -18,12 +21,15 @@ mod units;
 
 use anyhow::bail;
 use bits::BitKernel;
+use choices::ChoiceKernel;
 use edges::{EdgeKernel, Edges, blank};
 use hv_types::{NoMemory, Picture};
 use inter::{InterKernel, Motion};
 use intra::{IntraKernel, Lines};
 use kernel::Kernel;
+use leaves::LeafKernel;
 use levels::{Blocks, LevelKernel};
+use offsets::{OffsetKernel, Shown};
 use pictures::Pictures;
 use std::alloc::Global;
 use std::env;
@@ -274,6 +280,69 @@ fn print_checksums_of_edges(
     Ok(())
 }
 
+/// The sum of what `rounds` rounds of calls gave, modulo 2^64.
+fn checksum_of_offsets(kernel: OffsetKernel, rounds: u32, shown: &mut Shown) -> u64 {
+    let mut sum = 0u64;
+    for _ in 0..rounds {
+        for _ in 0..CALLS {
+            sum = sum.wrapping_add(kernel.run(shown));
+        }
+    }
+    sum
+}
+
+/// As `print_checksums`, for sample adaptive offsets.
+fn print_checksums_of_offsets(
+    rt: &impl Print,
+    alloc: Global,
+    kernels: &[OffsetKernel],
+    rounds: u32,
+) -> anyhow::Result<()> {
+    for kernel in kernels {
+        let Ok(mut shown) = kernel.shown(alloc) else {
+            bail!("not enough memory");
+        };
+        let sum = checksum_of_offsets(*kernel, rounds, &mut shown);
+        let name = kernel.name();
+        println!(rt; "{name} {sum}")?;
+    }
+    Ok(())
+}
+
+/// As `print_checksums`, for the rebuilding of leaves.
+fn print_checksums_of_leaves(
+    rt: &impl Print,
+    alloc: Global,
+    kernels: &[LeafKernel],
+    rounds: u32,
+) -> anyhow::Result<()> {
+    for kernel in kernels {
+        let sum = kernel.run(alloc, rounds)?;
+        let name = kernel.name();
+        println!(rt; "{name} {sum}")?;
+    }
+    Ok(())
+}
+
+/// As `print_checksums`, for the choice of a block.
+fn print_checksums_of_choices(
+    rt: &impl Print,
+    alloc: Global,
+    kernels: &[ChoiceKernel],
+    rounds: u32,
+) -> anyhow::Result<()> {
+    for kernel in kernels {
+        let mut choice = kernel.choice(alloc)?;
+        let mut sum = 0u64;
+        for _ in 0..rounds {
+            sum = sum.wrapping_add(choice.run());
+        }
+        let name = kernel.name();
+        println!(rt; "{name} {sum}")?;
+    }
+    Ok(())
+}
+
 fn main(rt: HostRuntime) -> anyhow::Result<()> {
     let mut words = env::args(&rt)?.skip(1);
     let (Some(name), Some(rounds)) = (words.next(), words.next()) else {
@@ -290,7 +359,10 @@ fn main(rt: HostRuntime) -> anyhow::Result<()> {
         print_checksums_of_transforms(&rt, rt.alloc(), &TransformKernel::ALL, rounds)?;
         print_checksums_of_levels(&rt, rt.alloc(), &LevelKernel::ALL, rounds)?;
         print_checksums_of_units(&rt, rt.alloc(), &UnitKernel::ALL, rounds)?;
-        return print_checksums_of_edges(&rt, rt.alloc(), &EdgeKernel::ALL, rounds);
+        print_checksums_of_edges(&rt, rt.alloc(), &EdgeKernel::ALL, rounds)?;
+        print_checksums_of_offsets(&rt, rt.alloc(), &OffsetKernel::ALL, rounds)?;
+        print_checksums_of_leaves(&rt, rt.alloc(), &LeafKernel::ALL, rounds)?;
+        return print_checksums_of_choices(&rt, rt.alloc(), &ChoiceKernel::ALL, rounds);
     }
     if let Some(kernel) = BitKernel::named(name.as_str()) {
         return print_checksums_of_bits(&rt, rt.alloc(), &[kernel], rounds);
@@ -312,6 +384,15 @@ fn main(rt: HostRuntime) -> anyhow::Result<()> {
     }
     if let Some(kernel) = EdgeKernel::named(name.as_str()) {
         return print_checksums_of_edges(&rt, rt.alloc(), &[kernel], rounds);
+    }
+    if let Some(kernel) = OffsetKernel::named(name.as_str()) {
+        return print_checksums_of_offsets(&rt, rt.alloc(), &[kernel], rounds);
+    }
+    if let Some(kernel) = LeafKernel::named(name.as_str()) {
+        return print_checksums_of_leaves(&rt, rt.alloc(), &[kernel], rounds);
+    }
+    if let Some(kernel) = ChoiceKernel::named(name.as_str()) {
+        return print_checksums_of_choices(&rt, rt.alloc(), &[kernel], rounds);
     }
     match Kernel::named(name.as_str()) {
         Some(kernel) => print_checksums(&rt, rt.alloc(), &[kernel], rounds),

@@ -1,17 +1,8 @@
 -- A picture keeps its sides behind the filter.
-use Rattle.std.proofs.Common.{◌≡◌, ℕ, subst, sym}
-use Rattle.hv_types.specs.Samples.{Plane, IsPlane, plane_of}
+use Rattle.std.proofs.Common.{subst, sym}
 use Rattle.hv_types.specs.Video.{IsPicture}
-use Rattle.hv_types.proofs.SampleLemmas.{IsPlane-plane_of}
+use Rattle.hv_speed.proofs.SideLemmas.{sides_kept}
 use Rattle.hv_speed.proofs.edges.deblock_once.Goals as goal
-
-sides_kept : (w h : ℕ) (f : ℕ → ℕ → ℕ) (p : Plane) → IsPlane w h p →
-    IsPlane w h (plane_of p.width p.height f)
-sides_kept w h f p it = record {
-  wide = it.wide;
-  high = it.high;
-  whole = (IsPlane-plane_of p.width p.height f it.whole.wide it.whole.high).whole;
-}
 
 pub returns : goal.returns
 returns c =

@@ -26,6 +26,7 @@ use Rattle.hv_words.proofs.AcceptanceLemmas.{same_settings}
 use Rattle.hv_serial.specs.Transfers.{Drawn, Put, Grows, PutsPart}
 use Rattle.hv_serial.specs.Outcomes.{pictures_in, rest_in, group_count, WroteGroups, IsReadToEnd, EndsWithin, GoesOn}
 use Rattle.hv_serial.specs.Endings.{BothTold, Ends, EndsOk, AreTotals}
+use Rattle.hv_run.specs.Input.{input_drawn, is_generated}
 use Rattle.hv_run.specs.Report.{Reports, ReportsRefusal, encoded_line, error_line, totals_line, line_of, no_memory_line, words_line, is_want_of_memory}
 use Rattle.hv_run.specs.Statuses.{is_whole, is_of_input, fixed_line, status_of, Concludes, ConcludedOk, ConcludedReportFault, due, status_due, IsDue}
 use Rattle.hv_serial.proofs.ReadingLemmas.{next_place}
@@ -33,10 +34,14 @@ use Rattle.hv_serial.proofs.ReadingLemmas.{next_place}
 -- ---- a call that concluded so, for the settings that were asked for
 
 pub concluded : (words : List (List ℕ)) (cfg config : Settings) (d : Drawn) (w r : Put) (s t : Status) → AsksFor words cfg → AsksFor words config →
-    Concludes config d w r s → s ≡ t → Concludes cfg d w r t
+    Concludes config (input_drawn config d) w r s → s ≡ t → Concludes cfg (input_drawn cfg d) w r t
 concluded words cfg config d w r s t a b e same =
-    subst (λ (k : Settings). Concludes k d w r t) (same_settings words config cfg b a)
-    (subst (λ (u : Status). Concludes config d w r u) same e)
+    subst (λ (k : Settings). Concludes k (input_drawn k d) w r t) (same_settings words config cfg b a)
+    (subst (λ (u : Status). Concludes config (input_drawn config d) w r u) same e)
+
+-- the settings that were asked for name a generator, where those do that the call found
+pub asked_generator : (words : List (List ℕ)) (cfg config : Settings) → AsksFor words cfg → AsksFor words config → is_generated cfg ≡ true → is_generated config ≡ true
+asked_generator words cfg config a b named = ap is_generated (same_settings words config cfg b a) ∙ named
 
 pub concluded_error : (cfg : Settings) (d : Drawn) (w r : Put) (size : ℕ) (e : EncodeError) (s : Status) → size ≡ picture_bytes cfg → s ≡ status_of e →
     Ends cfg d w (Err e) → Reports r (error_line size e) → Concludes cfg d w r s

@@ -1,2 +1,3 @@
 mod ReportLemmas
 mod ConclusionLemmas
+mod InputLemmas

@@ -43,7 +43,7 @@ fn push_slope(raw: &mut Vec<u8>, first: u8, size: u8) -> Result<(), NoMemory>
 }
 
 /// The pictures whose stream it is: each brighter by 5 than the one before.
-fn slopes(alloc: Global) -> Result<Vec<u8>, NoMemory> {
+pub(crate) fn slopes(alloc: Global) -> Result<Vec<u8>, NoMemory> {
     let mut raw = Vec::new(alloc);
     for number in 0u8..5 {
         push_slope(&mut raw, 5 * number, 8)?;

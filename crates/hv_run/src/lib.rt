@@ -2,6 +2,8 @@
 #![tactic(auto)]
 
 #[cfg(test)]
+mod generator_tests;
+#[cfg(test)]
 mod group_tests;
 #[cfg(test)]
 mod intra_tests;

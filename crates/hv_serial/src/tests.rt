@@ -1,7 +1,8 @@
 //! What no clause says: that parameter sets come out where there is memory, and the bytes of known
-//! ones. They are those of another encoder, written by another hand, whose streams two decoders
-//! accept.
+//! ones, which are those of another encoder, written by another hand, whose streams two decoders
+//! accept; and the texts of errors.
 
+use crate::answers::EncodeError;
 use crate::parameters::parameter_sets;
 use hv_types::{Config, Emit, Settings};
 use std::process::Abort;
@@ -38,5 +39,21 @@ fn parameter_sets_in_their_order(rt: HostRuntime) -> Result<(), Fail> {
         0x00, 0x00, 0x00, 0x01, 0x44, 0x01, 0xC0, 0x71, 0x80, 0x12,
     ];
     assert_eq!(rt; units.as_slice(), known.as_slice());
+    Ok(())
+}
+
+/// The texts of errors are the lines of the report, but for the size of a picture.
+#[test]
+#[rattlefmt::skip]
+fn errors_have_texts(rt: HostRuntime) -> Result<(), Fail> {
+    for (error, text) in [
+        (EncodeError::ReadFault, "read fault"),
+        (EncodeError::ShortPicture { have: 7 }, "short picture: 7 bytes"),
+        (EncodeError::WriteFault, "write fault"),
+        (EncodeError::NoMemory, "no memory"),
+        (EncodeError::TooLong, "more than 400000 pictures"),
+    ] {
+        assert_eq!(rt; format!(in rt.alloc(); "{error}")?.as_str(), text);
+    }
     Ok(())
 }

@@ -1,3 +1,4 @@
+pub mod FrontLemmas
 pub mod GeneratorLemmas
 pub mod PatternLemmas
 pub mod RunLemmas

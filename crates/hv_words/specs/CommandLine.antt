@@ -1,5 +1,5 @@
 -- The words of the command line: the settings that they ask for, and when they are refused.
-use Rattle.std.specs.Prelude.{◌≡◌, ℕ, min, Bool, true, false, cond, nat_eq, ◌&&◌, List, [], ◌∷◌, Option, Some, None, IsSome, codes, option_map, option_and_then, unwrap_or}
+use Rattle.std.specs.Prelude.{◌≡◌, ℕ, min, Bool, true, false, cond, List, [], ◌∷◌, Option, Some, None, IsSome, codes, option_map, option_and_then, unwrap_or}
 use Rattle.std.specs.Str.{bytes_eq}
 use Rattle.std.specs.Str.Parse.{digits_value, without_leading_plus}
 use Rattle.clap.specs.Words.{Kinds, Row, Text, fault_of as clap_fault_of, first_of, matches_of, one_of}
@@ -88,18 +88,6 @@ settings_of words = cond (is_taken words) (settings_in (rows_of_words words)) No
 
 -- ---- refusals
 
-abbrev pub is_stream : Emit → Bool
-is_stream Stream = true
-is_stream Recon = false
-
-abbrev pub is_read : Option SynthSpec → Bool
-is_read None = true
-is_read (Some synth) = false
-
--- what the program is built for so far: one worker, and a stream of pictures that are read
-abbrev pub is_accepted : Settings → Bool
-is_accepted s = is_built s && nat_eq s.workers 1 && is_stream s.emit && is_read s.synth
-
 -- why words are refused: they are no command line of this program, or the settings that they ask
 -- for have this fault, or aren't built yet
 pub data Refusal : Type 0 where
@@ -109,7 +97,7 @@ pub data Refusal : Type 0 where
 
 abbrev pub refusal_by : Option ConfigError → Settings → Option Refusal
 refusal_by (Some error) settings = Some (faulty error)
-refusal_by None settings = cond (is_accepted settings) None (Some not_built)
+refusal_by None settings = cond (is_built settings) None (Some not_built)
 
 abbrev pub refusal_of_settings : Option Settings → Option Refusal
 refusal_of_settings None = Some no_command_line

@@ -16,8 +16,8 @@ const ABOUT: &str = "Encodes raw video, 8-bit 4:2:0, from standard input to an H
     on standard output";
 
 const AFTER_HELP: &str =
-    "Built so far: --effort 0, or --group 1 at any effort, with one worker, no generator, and the \
-    stream as output. Other settings are answered with 'not built'.";
+    "Built so far: --effort 0, or --group 1 at any effort. Other settings are answered with 'not \
+    built'. More workers than one encode as one does.";
 
 const WIDTH: &str = "Width of a picture in luma samples: even, 8 to 4096";
 

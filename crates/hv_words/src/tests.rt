@@ -149,6 +149,10 @@ fn words_are_read_where_there_is_memory(rt: HostRuntime) -> Result<(), Fail> {
         ("--width 64 --height 64 --effort 0", "Ok 64x64 32 3"),
         ("--width 64 --height 64 --effort 0 --group 64 --levels 2", "Ok 64x64 32 2"),
         ("--width 64 --height 64 --group 1", "Ok 64x64 32 3"),
+        ("--width 64 --height 64 --group 1 --emit recon", "Ok 64x64 32 3"),
+        ("--width 64 --height 64 --group 1 --synth 7 --pictures 400000", "Ok 64x64 32 3"),
+        ("--width 64 --height 64 --group 1 --workers 16", "Ok 64x64 32 3"),
+        ("--width 64 --height 64 --group 1 --pictures 400001", "Ok 64x64 32 3"),
         ("--width 65 --height 64", "odd size"),
         ("--width 7 --height 64", "odd size"),
         ("--width 4098 --height 64", "size out of range"),
@@ -156,7 +160,7 @@ fn words_are_read_where_there_is_memory(rt: HostRuntime) -> Result<(), Fail> {
         ("--width 64 --height 64 --qp 300", "value out of range"),
         ("--width 64 --height 64 --workers 17", "value out of range"),
         ("--width 64 --height 64 --synth 1 --pictures 400001", "value out of range"),
-        ("--width 64 --height 64 --pictures 400001", "not built"),
+        ("--width 64 --height 64", "not built"),
         ("--width 64 --height 64 --effort 1 --group 2", "not built"),
     ] {
         let text = match config_of_words(rt.alloc(), &words_of(rt.alloc(), line)?) {

@@ -2,7 +2,8 @@
 
 ghost use Rattle.std.specs.Prelude.{◌≡◌, ⊤, map, Some, None, IfOk, IfErr};
 ghost use Rattle.clap.specs.Words.{Row, found_of, rows_of};
-ghost use Rattle.hv_words.specs.CommandLine.{AsksFor, refusal, is_accepted, settings_of, settings_in, emit_in, emit_of_text, synth_in, number_in, whole_in, byte_in, named, refusal_of_settings};
+ghost use Rattle.hv_model.specs.Built.{is_built};
+ghost use Rattle.hv_words.specs.CommandLine.{AsksFor, refusal, settings_of, settings_in, emit_in, emit_of_text, synth_in, number_in, whole_in, byte_in, named, refusal_of_settings};
 ghost use Rattle.hv_words.specs.Answers.{Answers, HasLine, Rejects};
 
 use crate::command::{PROGRAM_NAME, encoder_command};
@@ -49,14 +50,12 @@ fn checked(settings: Settings) -> Result<Config, WordsError>
     }
 }
 
-/// What the program is built for so far: see the definition.
+/// Whether the program is built for settings: those in which nothing is chosen, or each picture is
+/// a group of its own.
 fn is_built(settings: &Settings) -> bool
-    ensures { result ≡ is_accepted settings.now }
+    ensures { result ≡ is_built settings.now }
 {
-    (settings.effort == 0 || settings.group == 1)
-        && settings.workers == 1
-        && settings.emit == Emit::Stream
-        && settings.synth.is_none()
+    settings.effort == 0 || settings.group == 1
 }
 
 /// The settings that the words ask for, if they are those of the command. A value of `--emit` that

@@ -1,9 +1,23 @@
 -- What the source tells is what it has.
-use Rattle.std.proofs.Common.{refl, ap}
+use Rattle.std.proofs.Common.{Some, refl, sym, ap, ◌∙◌}
 use Rattle.hv_lemmas.proofs.OptionLemmas.{some_same}
 use Rattle.hv_run.specs.Statuses.{is_whole}
+use Rattle.hv_run.specs.Input.{input_bytes}
+use Rattle.hv_run.proofs.InputLemmas.{input_told, left_told}
 use Rattle.hv_run.proofs.known_ends.encode_in_memory.Goals as goal
 
 pub returns-clause-read : goal.returns-clause-read
-returns-clause-read g c cfg a is =
-    some_same _ _ (c.run_encode.ensures.ok_read cfg c.args.source.now.left a refl (ap is_whole is)).left
+returns-clause-read g c cfg a none is =
+    some_same _ _
+    (sym (left_told cfg (Some c.run_encode.new.source.left) none)
+    ∙ (c.run_encode.ensures.ok_read cfg (input_bytes cfg c.args.source.now.left) a (input_told cfg c.args.source.now.left) (ap is_whole is)).left)
+
+pub returns-clause-written : goal.returns-clause-written
+returns-clause-written g c cfg a is =
+    some_same _ _
+    (c.run_encode.ensures.ok_written cfg (input_bytes cfg c.args.source.now.left) a (input_told cfg c.args.source.now.left) (ap is_whole is) c.args.out.now.written refl)
+
+pub returns-clause-reported : goal.returns-clause-reported
+returns-clause-reported g c cfg a is =
+    some_same _ _
+    (c.run_encode.ensures.ok_report cfg (input_bytes cfg c.args.source.now.left) a (input_told cfg c.args.source.now.left) is c.args.report.now.written refl)

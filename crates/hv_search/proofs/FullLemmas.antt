@@ -60,7 +60,7 @@ same_coordinate : (block ahead d i : ℕ) (v : ℤ) →
     (pos block +ℤ v -ℤ pos 8) +ℤ pos (ahead + d + i) ≡ pos (block + ahead + i) +ℤ (v +ℤ (pos d -ℤ pos 8))
 same_coordinate block ahead d i v = omega (arith, ints)
 
-moved_none : (mv : Mv) → moved mv (pos 0) (pos 0) ≡ mv
+pub moved_none : (mv : Mv) → moved mv (pos 0) (pos 0) ≡ mv
 moved_none mv = ap₂ vector (omega (arith, ints)) (omega (arith, ints))
 
 next_place : (i : ℕ) → place_of (suc i) ≡ i

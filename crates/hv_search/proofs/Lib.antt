@@ -10,6 +10,7 @@ mod FullLemmas
 mod CoarseLemmas
 mod QuarterLemmas
 mod FractionLemmas
+mod HalfLemmas
 mod BlockLemmas
 mod VectorLemmas
 mod MotionLemmas

@@ -5,7 +5,6 @@ use Rattle.std.specs.Option.{option_and_then}
 use Rattle.std.proofs.lemmas.Option.{slice_get_past, slice_get-get_or}
 use mathlib.Core.Logic.{◌⊎◌, inl, inr}
 use Rattle.std.proofs.lemmas.Bool.{cases_lt}
-use Rattle.std.proofs.lemmas.Bool.Decides.{nat_tests}
 use Rattle.hv_lemmas.proofs.ComparisonLemmas.{le_below, le_not_below, lt_below, lt_not_below, other_than_0}
 use Rattle.hv_types.specs.GroupInput.{GroupInput}
 use Rattle.hv_types.specs.Samples.{Plane}

@@ -1,11 +1,13 @@
 //! The stages of halves and quarters of a sample, for a node.
-ghost use Rattle.std.specs.Prelude.{◌≡◌, ◌+◌, ◌*◌, ◌≤◌, Bool, nat_eq, ◌||◌, length, pos, ◌+ℤ◌, ◌-ℤ◌, true};
+ghost use Rattle.std.specs.Prelude.{◌≡◌, ◌+◌, ◌*◌, ◌<◌, ◌≤◌, Bool, nat_eq, ◌||◌, length, pos, ◌+ℤ◌, ◌-ℤ◌, true};
 ghost use Rattle.std.specs.Int.RustNames.{unsigned_abs};
 ghost use Rattle.hv_kernel.specs.Blocks.{sad_of_blocks};
 ghost use Rattle.hv_inter_model.specs.Interpolation.{inter_predicted};
-ghost use Rattle.hv_search_model.specs.MotionSearch.{moved, least_around, fractional_score};
+ghost use Rattle.hv_search_model.specs.MotionSearch.{Score, moved, least_around, fractional_score};
 ghost use Rattle.hv_search_model.specs.MotionLaws.{IsWithin};
+ghost use Rattle.hv_search.specs.Fraction.{around_place, AreScores, IsLeastAround};
 
+use crate::halves::half_sums;
 use crate::scored::{Scored, better};
 use crate::square::Square;
 use hv_interp::predict_inter;
@@ -15,7 +17,7 @@ use hv_types::{Plane, Window};
 
 /// The sum of absolute differences of two blocks of 8, 16, 32 or 64 columns.
 #[inline(always)]
-fn sad_of_pair(blocks: Pair, side: u8) -> u32
+pub(crate) fn sad_of_pair(blocks: Pair, side: u8) -> u32
     requires columns { blocks.first.columns ≡ side }
     requires sized { (nat_eq side 8 || nat_eq side 16 || nat_eq side 32 || nat_eq side 64) ≡ true }
     ensures { result ≡ sad_of_blocks blocks.entry }
@@ -74,7 +76,7 @@ pub(crate) fn shifted(component: i16, more: u8, less: u8) -> i16
 /// A vector around another one: so many steps of quarters of a sample further right and down, less
 /// one of each.
 #[inline(always)]
-fn candidate(centre: Mv, step: u8, right: u8, down: u8) -> Mv
+pub(crate) fn candidate(centre: Mv, step: u8, right: u8, down: u8) -> Mv
     requires near { IsWithin 30000 centre }
     requires step { step ≤ 2 }
     requires right { right ≤ 2 }
@@ -88,25 +90,59 @@ fn candidate(centre: Mv, step: u8, right: u8, down: u8) -> Mv
     }
 }
 
-/// The first of least score of a vector and the eight that lie a step around it.
-fn least_of_nine(input: &Plane, reference: &Plane, square: Square, centre: Mv, step: u8) -> Mv
+/// The score of place `t` of the stage of quarters, by rows, around a vector whose score is known.
+fn quarter_sum(input: &Plane, reference: &Plane, square: Square, half: Scored, t: u8) -> u64
     requires across { square.x + square.side ≤ input.now.width }
     requires down { square.y + square.side ≤ input.now.height }
+    requires near { IsWithin 30000 half.mv }
+    requires known { half.sum ≡
+        fractional_score input.now reference.now square.x square.y square.side half.mv }
+    requires place { t < 9 }
+    ensures { result ≡ fractional_score input.now reference.now square.x square.y square.side
+        (around_place 1 half.mv t) }
+{
+    if t == 4 {
+        return half.sum;
+    }
+    let mv = candidate(half.mv, 1, t % 3, t / 3);
+    u64::from(fractional_sum(input, reference, square, mv))
+}
+
+/// The scores of the stage of quarters of a sample, by rows, around a vector whose score is known.
+fn quarter_sums(input: &Plane, reference: &Plane, square: Square, half: Scored) -> [u64; 9]
+    requires across { square.x + square.side ≤ input.now.width }
+    requires down { square.y + square.side ≤ input.now.height }
+    requires near { IsWithin 30000 half.mv }
+    requires known { half.sum ≡
+        fractional_score input.now reference.now square.x square.y square.side half.mv }
+    ensures { AreScores (fractional_score input.now reference.now square.x square.y square.side)
+        1 half.mv 9 result }
+{
+    let mut sums = [0; 9];
+    for t in 0..9u8 {
+        sums[usize::from(t)] = quarter_sum(input, reference, square, half, t);
+    }
+    sums
+}
+
+/// The first of least score of a vector and the eight that lie a step around it, whose scores come
+/// by rows.
+fn least_of_nine(sums: &[u64; 9], centre: Mv, step: u8) -> Scored
     requires near { IsWithin 30000 centre }
     requires step { step ≤ 2 }
-    ensures { result ≡ least_around
-        (fractional_score input.now reference.now square.x square.y square.side) 1 step centre }
+    ensures { (score : Score) → AreScores score step centre 9 sums.now →
+        IsLeastAround score step centre result }
 {
-    let sum = fractional_sum(input, reference, square, centre);
-    let mut best = Scored { sum, mv: centre };
-    for down in 0..3u8 {
-        for right in 0..3u8 {
-            let mv = candidate(centre, step, right, down);
-            let sum = fractional_sum(input, reference, square, mv);
-            best = better(best, Scored { sum, mv });
-        }
+    let mut best = Scored {
+        sum: sums[4],
+        mv: centre,
+    };
+    for t in 0..9u8 {
+        let mv = candidate(centre, step, t % 3, t / 3);
+        let sum = sums[usize::from(t)];
+        best = better(best, Scored { sum, mv });
     }
-    best.mv
+    best
 }
 
 /// The vector of the stages of halves and quarters around a vector in whole samples, all in
@@ -120,6 +156,8 @@ pub(crate) fn quarter_vector(input: &Plane, reference: &Plane, square: Square, w
         (least_around
         (fractional_score input.now reference.now square.x square.y square.side) 1 2 whole) }
 {
-    let half = least_of_nine(input, reference, square, whole, 2);
-    least_of_nine(input, reference, square, half, 1)
+    let sums = half_sums(input, reference, square, whole);
+    let half = least_of_nine(&sums, whole, 2);
+    let sums = quarter_sums(input, reference, square, half);
+    least_of_nine(&sums, half.mv, 1).mv
 }

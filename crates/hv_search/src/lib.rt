@@ -8,6 +8,7 @@ mod coarse;
 mod fraction;
 mod full;
 mod grid;
+mod halves;
 mod lanes;
 mod motion;
 mod nodes;

@@ -6,7 +6,7 @@ use hv_plan::Mv;
 /// A vector and its score.
 #[derive(Clone, Copy)]
 pub(crate) struct Scored {
-    pub(crate) sum: u32,
+    pub(crate) sum: u64,
     pub(crate) mv: Mv,
 }
 

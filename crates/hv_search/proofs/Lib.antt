@@ -1,0 +1,16 @@
+mod LaneSumLemmas
+mod LeastKeyLemmas
+mod NodeLemmas
+mod SadLemmas
+mod StoreLemmas
+mod WeaveLemmas
+mod WindowLemmas
+mod FirstLeastLemmas
+mod FullLemmas
+mod CoarseLemmas
+mod QuarterLemmas
+mod FractionLemmas
+mod HalfLemmas
+mod BlockLemmas
+mod VectorLemmas
+mod MotionLemmas

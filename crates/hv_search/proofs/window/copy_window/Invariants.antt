@@ -1,0 +1,8 @@
+use Rattle.std.proofs.Common.{pos, ◌+ℤ◌, ◌*◌, ◌%◌, ◌/◌}
+use Rattle.hv_interp.specs.Filters.{HasFirst}
+use Rattle.hv_search.specs.Windows.{plane_of_grid, nearest_sample}
+use Rattle.hv_search.proofs.window.copy_window.Given as goal
+
+abbrev pub invariant-loop-j : goal.invariant-loop-j
+invariant-loop-j l =
+    HasFirst 0 (l.j * l.side) (λ k. nearest_sample (plane_of_grid l.grid) (l.fn.x +ℤ pos (k % l.side)) (l.fn.y +ℤ pos (k / l.side))) l.out

@@ -1,0 +1,11 @@
+use Rattle.std.proofs.Common.{◌≡◌, length, pos, ◌+ℤ◌}
+use Rattle.hv_types.specs.Samples.{sample_at}
+use Rattle.hv_interp.specs.Filters.{HasFirst}
+use Rattle.hv_search_model.specs.MotionSearch.{nearest}
+use Rattle.hv_search.specs.Windows.{plane_of_grid}
+use Rattle.hv_search.proofs.window.put_row.Given as goal
+
+abbrev pub invariant-loop-i : goal.invariant-loop-i
+invariant-loop-i l =
+    (length l.out ≡ length l.initial.out) ×
+    HasFirst 0 l.i (λ i. sample_at (plane_of_grid l.grid) (nearest l.grid.width (l.fn.x +ℤ pos i)) l.row) l.out

@@ -1,6 +1,7 @@
 mod EightSumLemmas
 mod InterpolationLemmas
 mod LaneLemmas
+mod PairLemmas
 pub mod PlaceLemmas
 mod PredictionLemmas
 mod RoundedLaneLemmas

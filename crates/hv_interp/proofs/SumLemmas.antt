@@ -121,6 +121,18 @@ tap_small [] k = omega arith
 tap_small (tap ∷ taps) zero = omega arith
 tap_small (tap ∷ taps) (suc k) = omega (arith, tap_small taps k)
 
+-- nor are two
+pub two_taps_small : (taps : List ℤ) (k : ℕ) →
+    unsigned_abs (slice_index_or taps k (pos 0)) + unsigned_abs (slice_index_or taps (k + 1) (pos 0)) ≤ weight_of taps
+two_taps_small [] k = omega arith
+two_taps_small (tap ∷ taps) zero = omega (arith, tap_small taps 0)
+two_taps_small (tap ∷ taps) (suc k) =
+    let next : suc k + 1 ≡ suc (k + 1) = omega arith in
+    let first : unsigned_abs (slice_index_or (tap ∷ taps) (suc k) (pos 0)) ≡ unsigned_abs (slice_index_or taps k (pos 0)) = refl in
+    let second : unsigned_abs (slice_index_or (tap ∷ taps) (suc k + 1) (pos 0)) ≡ unsigned_abs (slice_index_or taps (k + 1) (pos 0)) =
+    ap (λ i. unsigned_abs (slice_index_or (tap ∷ taps) i (pos 0))) next in
+    omega (arith, first, second, two_taps_small taps k)
+
 pub taps_fit : (taps : List ℤ) → weight_of taps ≤ 112 → (k : ℕ) → SFits w16 (slice_index_or taps k (pos 0))
 taps_fit taps light k = fits_signed_from_abs w16 (slice_index_or taps k (pos 0)) (omega (arith, light, tap_small taps k))
 

@@ -4,6 +4,7 @@
 mod filters;
 mod interpolate;
 mod lanes;
+mod pairs;
 mod predict;
 mod taps;
 #[cfg(test)]

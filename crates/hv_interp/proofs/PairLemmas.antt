@@ -17,11 +17,11 @@ use Rattle.hv_lemmas.proofs.SignedLemmas.{size_of_sum}
 use Rattle.hv_lanes.proofs.LaneStepLemmas.{kept as kept_in}
 use Rattle.hv_lanes.proofs.LaneSumLemmas.{sum_is}
 use Rattle.std.proofs.lemmas.Bool.{leb-true, cases_lt}
-use Rattle.hv_interp.specs.Filters.{strided_sum, strided_sum_of, weight_of}
+use Rattle.hv_interp.specs.Filters.{paired_place, placed_sum, placed_sum_of, strided_sum, weight_of}
 use Rattle.hv_interp.specs.Lanes.{ArePairsLight, AreSpread, AreSums, lane, of_neighbours}
 use Rattle.hv_interp.proofs.EightSumLemmas.{kept, of_lanes, sums_fit}
 use Rattle.hv_interp.proofs.PlaceLemmas.{row_part}
-use Rattle.hv_interp.proofs.SumLemmas.{size_of_strided_sum, size_of_strided_sum_of, strided_sum_of_more, two_taps_small}
+use Rattle.hv_interp.proofs.SumLemmas.{size_of_placed_sum, size_of_placed_sum_of, placed_sum_of_more, two_taps_small, weighted_same}
 use Rattle.hv_interp.proofs.TotalLaneLemmas.{product_is}
 
 abbrev byte_of : List ℕ → ℕ → ℕ
@@ -156,56 +156,56 @@ added_at (suc n) (suc j) (x ∷ xs) (y ∷ ys) l m f g p =
 -- ---- two taps more
 
 -- two lanes of a part of taps are taps k and k + 1, and those of a row the samples that they meet
-pub record IsPair (k : ℕ) (taps : List ℤ) (samples : List ℕ) (place : ℕ → ℕ) (step : ℕ) (part : List ℤ) (row : List ℕ) (j : ℕ) :
+pub record IsPair (k : ℕ) (taps : List ℤ) (samples : List ℕ) (place : ℕ → ℕ → ℕ) (part : List ℤ) (row : List ℕ) (j : ℕ) :
     Type 0 where
   pub first_tap : lane part (2 * j) ≡ lane taps k
   pub second_tap : lane part (2 * j + 1) ≡ lane taps (k + 1)
-  pub first : slice_index_or row (2 * j) 0 ≡ slice_index_or samples (place j + k * step) 0
-  pub second : slice_index_or row (2 * j + 1) 0 ≡ slice_index_or samples (place j + (k + 1) * step) 0
+  pub first : slice_index_or row (2 * j) 0 ≡ slice_index_or samples (place j k) 0
+  pub second : slice_index_or row (2 * j + 1) 0 ≡ slice_index_or samples (place j (k + 1)) 0
 
-pub two_light : (k : ℕ) (taps : List ℤ) (samples : List ℕ) (place : ℕ → ℕ) (step : ℕ) (part : List ℤ) (row : List ℕ) → weight_of taps ≤ 112 →
-    ((j : ℕ) → j < 8 → IsPair k taps samples place step part row j) → ArePairsLight part
-two_light k taps samples place step part row light pair j below =
+pub two_light : (k : ℕ) (taps : List ℤ) (samples : List ℕ) (place : ℕ → ℕ → ℕ) (part : List ℤ) (row : List ℕ) → weight_of taps ≤ 112 →
+    ((j : ℕ) → j < 8 → IsPair k taps samples place part row j) → ArePairsLight part
+two_light k taps samples place part row light pair j below =
     omega (arith, light, two_taps_small taps k, ap unsigned_abs (pair j below).first_tap, ap unsigned_abs (pair j below).second_tap)
 
-pub two_more : (k : ℕ) (taps : List ℤ) (samples : List ℕ) (place : ℕ → ℕ) (step : ℕ) (part : List ℤ) (row : List ℕ) (lanes : List ℤ) → k + 2 ≤ length taps →
-    AreSums k taps samples place step lanes → (j : ℕ) → j < 8 → IsPair k taps samples place step part row j →
-    lane lanes j +ℤ of_neighbours part row j ≡ strided_sum_of (k + 2) taps samples (place j) step
-two_more k taps samples place step part row lanes more sums j below pair =
-    let a : ℤ = lane taps k *ℤ pos (slice_index_or samples (place j + k * step) 0) in
-    let b : ℤ = lane taps (k + 1) *ℤ pos (slice_index_or samples (place j + (k + 1) * step) 0) in
-    let before : ℤ = strided_sum_of k taps samples (place j) step in
+pub two_more : (k : ℕ) (taps : List ℤ) (samples : List ℕ) (place : ℕ → ℕ → ℕ) (part : List ℤ) (row : List ℕ) (lanes : List ℤ) → k + 2 ≤ length taps →
+    AreSums k taps samples place lanes → (j : ℕ) → j < 8 → IsPair k taps samples place part row j →
+    lane lanes j +ℤ of_neighbours part row j ≡ placed_sum_of (k + 2) taps samples (place j)
+two_more k taps samples place part row lanes more sums j below pair =
+    let a : ℤ = lane taps k *ℤ pos (slice_index_or samples (place j k) 0) in
+    let b : ℤ = lane taps (k + 1) *ℤ pos (slice_index_or samples (place j (k + 1)) 0) in
+    let before : ℤ = placed_sum_of k taps samples (place j) in
     let next : k + 1 + 1 ≡ k + 2 = omega arith in
     ap₂ (λ s p. s +ℤ p) (sums.each j below)
     (ap₂ (λ p q. p +ℤ q) (ap₂ (λ u v. u *ℤ pos v) pair.first_tap pair.first) (ap₂ (λ u v. u *ℤ pos v) pair.second_tap pair.second)) ∙
     regrouped before a b ∙
-    sym (ap (λ n. strided_sum_of n taps samples (place j) step) (sym next) ∙
-    strided_sum_of_more (k + 1) taps samples (place j) step (omega (arith, more)) ∙
-    ap (λ s. s +ℤ b) (strided_sum_of_more k taps samples (place j) step (omega (arith, more))))
+    sym (ap (λ n. placed_sum_of n taps samples (place j)) (sym next) ∙
+    placed_sum_of_more (k + 1) taps samples (place j) (omega (arith, more)) ∙
+    ap (λ s. s +ℤ b) (placed_sum_of_more k taps samples (place j) (omega (arith, more))))
   where
     regrouped : (s p q : ℤ) → s +ℤ (p +ℤ q) ≡ (s +ℤ p) +ℤ q
     regrouped s p q = omega (arith, ints)
 
-pub two_more_fit : (k : ℕ) (taps : List ℤ) (samples : List ℕ) (place : ℕ → ℕ) (step : ℕ) (part : List ℤ) (row : List ℕ) (lanes : List ℤ) → weight_of taps ≤ 112 →
+pub two_more_fit : (k : ℕ) (taps : List ℤ) (samples : List ℕ) (place : ℕ → ℕ → ℕ) (part : List ℤ) (row : List ℕ) (lanes : List ℤ) → weight_of taps ≤ 112 →
     ((i : ℕ) → Fits w8 (slice_index_or samples i 0)) → k + 2 ≤ length taps →
-    AreSums k taps samples place step lanes → (j : ℕ) → j < 8 → IsPair k taps samples place step part row j →
+    AreSums k taps samples place lanes → (j : ℕ) → j < 8 → IsPair k taps samples place part row j →
     SFits w16 (lane lanes j +ℤ of_neighbours part row j)
-two_more_fit k taps samples place step part row lanes light bytes more sums j below pair =
-    subst (SFits w16) (sym (two_more k taps samples place step part row lanes more sums j below pair))
-    (fits_signed_from_abs w16 _ (omega (arith, size_of_strided_sum_of (k + 2) taps samples (place j) step light bytes)))
+two_more_fit k taps samples place part row lanes light bytes more sums j below pair =
+    subst (SFits w16) (sym (two_more k taps samples place part row lanes more sums j below pair))
+    (fits_signed_from_abs w16 _ (omega (arith, size_of_placed_sum_of (k + 2) taps samples (place j) light bytes)))
 
-pub two_sums_more : (k : ℕ) (taps : List ℤ) (samples : List ℕ) (place : ℕ → ℕ) (step : ℕ) (part : List ℤ) (row : List ℕ) (lanes next : List ℤ) → weight_of taps ≤ 112 →
+pub two_sums_more : (k : ℕ) (taps : List ℤ) (samples : List ℕ) (place : ℕ → ℕ → ℕ) (part : List ℤ) (row : List ℕ) (lanes next : List ℤ) → weight_of taps ≤ 112 →
     ((i : ℕ) → Fits w8 (slice_index_or samples i 0)) → k + 2 ≤ length taps →
-    AreSums k taps samples place step lanes → ((j : ℕ) → j < 8 → IsPair k taps samples place step part row j) → length next ≡ 8 →
+    AreSums k taps samples place lanes → ((j : ℕ) → j < 8 → IsPair k taps samples place part row j) → length next ≡ 8 →
     ((j : ℕ) → j < 8 → lane next j ≡ lane lanes j +ℤ of_neighbours part row j) →
-    AreSums (k + 2) taps samples place step (map (to_z w16) (map (of_z w16) next))
-two_sums_more k taps samples place step part row lanes next light bytes more sums pair eight each =
-    let all : AreSums (k + 2) taps samples place step next =
-    record { eight = eight; each = λ j below. each j below ∙ two_more k taps samples place step part row lanes more sums j below (pair j below) } in
-    subst (AreSums (k + 2) taps samples place step)
-    (sym (kept next (sums_fit (k + 2) taps samples place step next light bytes all))) all
+    AreSums (k + 2) taps samples place (map (to_z w16) (map (of_z w16) next))
+two_sums_more k taps samples place part row lanes next light bytes more sums pair eight each =
+    let all : AreSums (k + 2) taps samples place next =
+    record { eight = eight; each = λ j below. each j below ∙ two_more k taps samples place part row lanes more sums j below (pair j below) } in
+    subst (AreSums (k + 2) taps samples place)
+    (sym (kept next (sums_fit (k + 2) taps samples place next light bytes all))) all
 
--- ---- along a row
+-- ---- the next pair of taps
 
 pub spread_at : (p i T : ℕ) (taps spread : List ℤ) → i < 16 → 2 * p + 2 ≤ T → AreSpread T taps spread →
     lane (row_part spread (16 * p) 16) i ≡ lane taps (2 * p + i % 2)
@@ -218,15 +218,25 @@ part_at : (samples : List ℕ) (from i : ℕ) → i < 16 → slice_index_or (row
 part_at samples from i below =
     get_or-take (from + 16 - from) (drop from samples) i 0 (omega (arith, below)) ∙ get_or-drop from samples i 0
 
-pub row_pair : (p T at : ℕ) (taps spread : List ℤ) (samples : List ℕ) → 2 * p + 2 ≤ T → AreSpread T taps spread → (j : ℕ) → j < 8 →
-    IsPair (2 * p) taps samples (λ j. at + 2 * j) 1 (row_part spread (16 * p) 16) (row_part samples (at + 2 * p) 16) j
-row_pair p T at taps spread samples more each j below =
+pub next_pair : (p T at step : ℕ) (taps spread : List ℤ) (samples : List ℕ) → 2 * p + 2 ≤ T → AreSpread T taps spread → (j : ℕ) → j < 8 →
+    IsPair (2 * p) taps samples (λ j. paired_place (at + 2 * j) step) (row_part spread (16 * p) 16) (row_part samples (at + p * step) 16) j
+next_pair p T at step taps spread samples more each j below =
+    let half : 2 * p / 2 ≡ p = omega arith in
+    let other_half : (2 * p + 1) / 2 ≡ p = omega arith in
+    let first : at + p * step + 2 * j ≡ paired_place (at + 2 * j) step (2 * p) = omega (arith, ap (λ h. h * step) half) in
+    let second : at + p * step + (2 * j + 1) ≡ paired_place (at + 2 * j) step (2 * p + 1) = omega (arith, ap (λ h. h * step) other_half) in
     record {
       first_tap = spread_at p (2 * j) T taps spread (omega (arith, below)) more each ∙ ap (lane taps) (omega arith);
       second_tap = spread_at p (2 * j + 1) T taps spread (omega (arith, below)) more each ∙ ap (lane taps) (omega arith);
-      first = part_at samples (at + 2 * p) (2 * j) (omega (arith, below)) ∙ ap (λ i. slice_index_or samples i 0) (omega arith);
-      second = part_at samples (at + 2 * p) (2 * j + 1) (omega (arith, below)) ∙ ap (λ i. slice_index_or samples i 0) (omega arith);
+      first = part_at samples (at + p * step) (2 * j) (omega (arith, below)) ∙ ap (λ i. slice_index_or samples i 0) first;
+      second = part_at samples (at + p * step) (2 * j + 1) (omega (arith, below)) ∙ ap (λ i. slice_index_or samples i 0) second;
     }
+
+-- pairs two samples apart are taps one sample apart
+pub one_apart : (taps : List ℤ) (samples : List ℕ) (at : ℕ) → placed_sum taps samples (paired_place at 2) ≡ strided_sum taps samples at 1
+one_apart taps samples at =
+    weighted_same taps (λ k. pos (slice_index_or samples (paired_place at 2 k) 0)) (λ k. pos (slice_index_or samples (at + k * 1) 0))
+    (λ k below. ap (λ i. pos (slice_index_or samples i 0)) (omega arith))
 
 -- ---- lanes in turn
 
@@ -272,7 +282,7 @@ pub sixteen_small : (taps : List ℤ) (samples : List ℕ) (at step : ℕ) (lane
     ((j : ℕ) → j < 16 → lane lanes j ≡ strided_sum taps samples (at + j) step) → (j : ℕ) → unsigned_abs (lane lanes j) ≤ 28560
 sixteen_small taps samples at step lanes light bytes count each =
     of_lanes 16 (λ z. unsigned_abs z ≤ 28560) lanes (omega arith) count
-    (λ j below. subst (λ z. unsigned_abs z ≤ 28560) (sym (each j below)) (size_of_strided_sum taps samples (at + j) step light bytes))
+    (λ j below. subst (λ z. unsigned_abs z ≤ 28560) (sym (each j below)) (size_of_placed_sum taps samples (λ k. at + j + k * step) light bytes))
 
 pub sums_in_turn : (taps : List ℤ) (samples : List ℕ) (at : ℕ) (even odd lanes : List ℤ) →
     ((i : ℕ) → i < 8 → lane lanes (2 * i) ≡ lane even i) → ((i : ℕ) → i < 8 → lane lanes (2 * i + 1) ≡ lane odd i) →

@@ -1,7 +1,7 @@
 -- Eight sums in lanes.
 use Rattle.std.specs.Prelude.{◌≡◌, ◌+◌, ◌*◌, ◌/◌, ◌%◌, ◌<◌, ◌≤◌, length, ℕ, List, slice_index_or, ℤ, pos, ◌+ℤ◌, ◌*ℤ◌}
 use Rattle.std.specs.Int.RustNames.{unsigned_abs}
-use Rattle.hv_interp.specs.Filters.{strided_sum_of, strided_total_of}
+use Rattle.hv_interp.specs.Filters.{placed_sum_of, strided_total_of}
 
 abbrev pub lane : List ℤ → ℕ → ℤ
 lane lanes j = slice_index_or lanes j (pos 0)
@@ -31,11 +31,11 @@ abbrev pub ArePairsLight : List ℤ → Type 0
 ArePairsLight taps =
     (j : ℕ) → j < 8 → unsigned_abs (lane taps (2 * j)) + unsigned_abs (lane taps (2 * j + 1)) ≤ 112
 
--- eight lanes are the sums of the first taps times samples, lane j from its place on
-pub record AreSums (count : ℕ) (taps : List ℤ) (samples : List ℕ) (place : ℕ → ℕ) (step : ℕ)
+-- eight lanes are the sums of the first taps times samples, tap k of lane j in its place
+pub record AreSums (count : ℕ) (taps : List ℤ) (samples : List ℕ) (place : ℕ → ℕ → ℕ)
     (lanes : List ℤ) : Type 0 where
   pub eight : length lanes ≡ 8
-  pub each : (j : ℕ) → j < 8 → lane lanes j ≡ strided_sum_of count taps samples (place j) step
+  pub each : (j : ℕ) → j < 8 → lane lanes j ≡ placed_sum_of count taps samples (place j)
 
 -- eight lanes are the sums of the first taps times numbers with a sign, from place `at` and the next seven on
 pub record AreTotals (count : ℕ) (taps numbers : List ℤ) (at step : ℕ) (lanes : List ℤ) : Type 0 where

@@ -2,7 +2,7 @@
 ghost use Rattle.std.specs.Prelude.{ℕ, ◌≡◌, ◌+◌, ◌-◌, ◌*◌, ◌/◌, ◌^◌, ◌<◌, ◌≤◌, length, ◌+ℤ◌};
 ghost use Rattle.std.specs.Int.RustNames.{FitsSigned, unsigned_abs};
 ghost use mir.Syntax.{w16};
-ghost use Rattle.hv_interp.specs.Filters.{strided_sum, weight_of};
+ghost use Rattle.hv_interp.specs.Filters.{paired_place, placed_sum, strided_sum, weight_of};
 ghost use Rattle.hv_interp.specs.Lanes.{ArePairsLight, AreSpread, lane, of_neighbours};
 
 use crate::lanes::no_sums;
@@ -58,28 +58,31 @@ fn add_neighbours(sums: i16x8, samples: &[u8], taps: &[i8]) -> i16x8
     sums + clipped(products(samples, taps))
 }
 
-/// Eight sums of taps times samples along a row, from place `at` and every second one behind it on.
+/// Eight sums of taps times samples, from place `at` and every second one behind it on: each pair of
+/// taps meets two neighbours, `step` behind those of the pair before.
 #[inline(always)]
-fn every_second_sum<const T: usize>(
+pub(crate) fn paired_sums<const T: usize>(
     taps: &[i8; T],
     spread: &[i8; 64],
     samples: &[u8],
     at: usize,
+    step: usize,
 ) -> i16x8
     requires most { T ≤ 8 }
     requires even { 2 * (T / 2) ≡ T }
     requires light { weight_of taps.now ≤ 112 }
     requires spread { AreSpread T taps.now spread.now }
     requires at { at < 2 ^ 48 }
-    requires inside { at + T + 14 ≤ length samples.now }
+    requires step { step < 2 ^ 32 }
+    requires inside { (p : ℕ) → p < T / 2 → at + p * step + 16 ≤ length samples.now }
     ensures count { length result ≡ 8 }
     ensures each { (j : ℕ) → j < 8 →
-        lane result j ≡ strided_sum taps.now samples.now (at + 2 * j) 1 }
+        lane result j ≡ placed_sum taps.now samples.now (paired_place (at + 2 * j) step) }
     ensures range { (j : ℕ) → unsigned_abs (lane result j) ≤ 28560 }
 {
     let mut sums = no_sums();
     for p in 0..taps.len() / 2 {
-        let from = at + 2 * p;
+        let from = at + p * step;
         sums = add_neighbours(
             sums,
             &samples[from..from + 16],
@@ -122,7 +125,7 @@ pub(crate) fn sixteen_sums<const T: usize>(
         lane result j ≡ strided_sum taps.now samples.now (at + j) 1 }
     ensures range { (j : ℕ) → unsigned_abs (lane result j) ≤ 28560 }
 {
-    let even = every_second_sum(taps, spread, samples, at);
-    let odd = every_second_sum(taps, spread, samples, at + 1);
+    let even = paired_sums(taps, spread, samples, at, 2);
+    let odd = paired_sums(taps, spread, samples, at + 1, 2);
     in_turn(even, odd)
 }

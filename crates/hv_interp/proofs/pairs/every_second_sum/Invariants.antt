@@ -1,7 +1,0 @@
-use Rattle.std.proofs.Common.{map, to_z, ◌+◌, ◌*◌}
-use mir.Syntax.{w16}
-use Rattle.hv_interp.specs.Lanes.{AreSums}
-use Rattle.hv_interp.proofs.pairs.every_second_sum.Given as goal
-
-abbrev pub invariant-loop-p : goal.invariant-loop-p
-invariant-loop-p g l = AreSums (2 * l.p) l.taps l.samples (λ j. l.at + 2 * j) 1 (map (to_z w16) l.sums)

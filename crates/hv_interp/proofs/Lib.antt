@@ -1,3 +1,4 @@
+mod ColumnLemmas
 mod EightSumLemmas
 mod InterpolationLemmas
 mod LaneLemmas

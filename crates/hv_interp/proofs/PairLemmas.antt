@@ -214,7 +214,7 @@ spread_at p i T taps spread below more each =
     get_or-drop (16 * p) spread i (pos 0) ∙ each (16 * p + i) (omega (arith, below, more)) ∙
     ap (lane taps) (omega (arith, below))
 
-part_at : (samples : List ℕ) (from i : ℕ) → i < 16 → slice_index_or (row_part samples from 16) i 0 ≡ slice_index_or samples (from + i) 0
+pub part_at : (samples : List ℕ) (from i : ℕ) → i < 16 → slice_index_or (row_part samples from 16) i 0 ≡ slice_index_or samples (from + i) 0
 part_at samples from i below =
     get_or-take (from + 16 - from) (drop from samples) i 0 (omega (arith, below)) ∙ get_or-drop from samples i 0
 
@@ -238,26 +238,59 @@ one_apart taps samples at =
     weighted_same taps (λ k. pos (slice_index_or samples (paired_place at 2 k) 0)) (λ k. pos (slice_index_or samples (at + k * 1) 0))
     (λ k below. ap (λ i. pos (slice_index_or samples i 0)) (omega arith))
 
--- ---- lanes in turn
+-- ---- sixteen lanes
 
 abbrev lane_of : List ℤ → List ℤ → ℕ → ℤ
-lane_of even odd i = to_z w16 (get_or (map (of_z w16) even ++ map (of_z w16) odd) i 0)
+lane_of xs ys i = to_z w16 (get_or (map (of_z w16) xs ++ map (of_z w16) ys) i 0)
 
-abbrev pub sixteen : List ℤ → List ℤ → List ℤ
-sixteen even odd =
-    let g : ℕ → ℤ = lane_of even odd in
+left_lane : (xs ys : List ℤ) → length xs ≡ 8 → ((j : ℕ) → SFits w16 (lane xs j)) → (j : ℕ) → j < 8 → lane_of xs ys j ≡ lane xs j
+left_lane xs ys l f j p =
+    ap (to_z w16) (get_or_append_left (map (of_z w16) xs) (map (of_z w16) ys) 0 j (omega (arith, p, l, length-map xs (of_z w16))) ∙
+    get_or-map (of_z w16) xs j (pos 0) 0 (omega (arith, p, l))) ∙ to_z-of_z w16 (lane xs j) (f j)
+
+right_lane : (xs ys : List ℤ) → length xs ≡ 8 → length ys ≡ 8 → ((j : ℕ) → SFits w16 (lane ys j)) → (j : ℕ) → j < 8 →
+    lane_of xs ys (8 + j) ≡ lane ys j
+right_lane xs ys l m f j p =
+    let other : 8 + j - 8 ≡ j = omega arith in
+    ap (to_z w16) (get_or-append_right (map (of_z w16) xs) (map (of_z w16) ys) 8 (8 + j) 0 (length-map xs (of_z w16) ∙ l) (omega arith) ∙
+    ap (λ k. get_or (map (of_z w16) ys) k 0) other ∙
+    get_or-map (of_z w16) ys j (pos 0) 0 (omega (arith, p, m))) ∙ to_z-of_z w16 (lane ys j) (f j)
+
+abbrev turned : List ℤ → List ℤ → List ℤ
+turned xs ys =
+    let g : ℕ → ℤ = lane_of xs ys in
     g 0 ∷ g 8 ∷ g 1 ∷ g 9 ∷ g 2 ∷ g 10 ∷ g 3 ∷ g 11 ∷ g 4 ∷ g 12 ∷ g 5 ∷ g 13 ∷ g 6 ∷ g 14 ∷ g 7 ∷ g 15 ∷ []
 
-pub even_in_turn : (even odd : List ℤ) → length even ≡ 8 → ((j : ℕ) → SFits w16 (lane even j)) → (j : ℕ) → j < 8 →
-    lane (sixteen even odd) (2 * j) ≡ lane even j
-even_in_turn even odd l f j p =
-    each_of_eight (λ j. lane (sixteen even odd) (2 * j) ≡ lane_of even odd j) refl refl refl refl refl refl refl refl j p ∙
-    ap (to_z w16) (get_or_append_left (map (of_z w16) even) (map (of_z w16) odd) 0 j (omega (arith, p, l, length-map even (of_z w16))) ∙
-    get_or-map (of_z w16) even j (pos 0) 0 (omega (arith, p, l))) ∙ to_z-of_z w16 (lane even j) (f j)
+abbrev ordered : List ℤ → List ℤ → List ℤ
+ordered xs ys =
+    let g : ℕ → ℤ = lane_of xs ys in
+    g 0 ∷ g 1 ∷ g 2 ∷ g 3 ∷ g 4 ∷ g 5 ∷ g 6 ∷ g 7 ∷ g 8 ∷ g 9 ∷ g 10 ∷ g 11 ∷ g 12 ∷ g 13 ∷ g 14 ∷ g 15 ∷ []
+
+pub even_in_turn : (xs ys : List ℤ) → length xs ≡ 8 → ((j : ℕ) → SFits w16 (lane xs j)) → (j : ℕ) → j < 8 →
+    lane (turned xs ys) (2 * j) ≡ lane xs j
+even_in_turn xs ys l f j p =
+    each_of_eight (λ j. lane (turned xs ys) (2 * j) ≡ lane_of xs ys j) refl refl refl refl refl refl refl refl j p ∙ left_lane xs ys l f j p
+
+pub odd_in_turn : (xs ys : List ℤ) → length xs ≡ 8 → length ys ≡ 8 → ((j : ℕ) → SFits w16 (lane ys j)) → (j : ℕ) → j < 8 →
+    lane (turned xs ys) (2 * j + 1) ≡ lane ys j
+odd_in_turn xs ys l m f j p =
+    each_of_eight (λ j. lane (turned xs ys) (2 * j + 1) ≡ lane_of xs ys (8 + j)) refl refl refl refl refl refl refl refl j p ∙
+    right_lane xs ys l m f j p
+
+pub low_in_order : (xs ys : List ℤ) → length xs ≡ 8 → ((j : ℕ) → SFits w16 (lane xs j)) → (j : ℕ) → j < 8 →
+    lane (ordered xs ys) j ≡ lane xs j
+low_in_order xs ys l f j p =
+    each_of_eight (λ j. lane (ordered xs ys) j ≡ lane_of xs ys j) refl refl refl refl refl refl refl refl j p ∙ left_lane xs ys l f j p
+
+pub high_in_order : (xs ys : List ℤ) → length xs ≡ 8 → length ys ≡ 8 → ((j : ℕ) → SFits w16 (lane ys j)) → (j : ℕ) → j < 8 →
+    lane (ordered xs ys) (8 + j) ≡ lane ys j
+high_in_order xs ys l m f j p =
+    each_of_eight (λ j. lane (ordered xs ys) (8 + j) ≡ lane_of xs ys (8 + j)) refl refl refl refl refl refl refl refl j p ∙
+    right_lane xs ys l m f j p
 
 -- what holds of even places and of odd ones
-pub by_turns : (P : ℕ → Type 0) → ((i : ℕ) → i < 8 → P (2 * i)) → ((i : ℕ) → i < 8 → P (2 * i + 1)) → (j : ℕ) → j < 16 → P j
-by_turns P even odd j below =
+pub by_turns : (n : ℕ) (P : ℕ → Type 0) → ((i : ℕ) → i < n → P (2 * i)) → ((i : ℕ) → i < n → P (2 * i + 1)) → (j : ℕ) → j < 2 * n → P j
+by_turns n P even odd j below =
     ⊎_elim
     (λ none.
     let e : 2 * (j / 2) ≡ j = omega (arith, none) in
@@ -267,22 +300,23 @@ by_turns P even odd j below =
     subst P e (odd (j / 2) (omega (arith, below))))
     (cases_lt (j % 2) 1)
 
-pub odd_in_turn : (even odd : List ℤ) → length even ≡ 8 → length odd ≡ 8 → ((j : ℕ) → SFits w16 (lane odd j)) → (j : ℕ) → j < 8 →
-    lane (sixteen even odd) (2 * j + 1) ≡ lane odd j
-odd_in_turn even odd l m f j p =
-    let other : 8 + j - 8 ≡ j = omega arith in
-    each_of_eight (λ j. lane (sixteen even odd) (2 * j + 1) ≡ lane_of even odd (8 + j)) refl refl refl refl refl refl refl refl j p ∙
-    ap (to_z w16) (get_or-append_right (map (of_z w16) even) (map (of_z w16) odd) 8 (8 + j) 0 (length-map even (of_z w16) ∙ l) (omega arith) ∙
-    ap (λ k. get_or (map (of_z w16) odd) k 0) other ∙
-    get_or-map (of_z w16) odd j (pos 0) 0 (omega (arith, p, m))) ∙ to_z-of_z w16 (lane odd j) (f j)
+-- what holds of eight places and of the next eight
+pub by_halves : (P : ℕ → Type 0) → ((i : ℕ) → i < 8 → P i) → ((i : ℕ) → i < 8 → P (8 + i)) → (j : ℕ) → j < 16 → P j
+by_halves P low high j below =
+    ⊎_elim
+    (λ less. low j less)
+    (λ more.
+    let e : 8 + (j - 8) ≡ j = omega (arith, more) in
+    subst P e (high (j - 8) (omega (arith, below))))
+    (cases_lt j 8)
 
--- sums of taps of weight 112 times samples, one place after another, in sixteen lanes
-pub sixteen_small : (taps : List ℤ) (samples : List ℕ) (at step : ℕ) (lanes : List ℤ) → weight_of taps ≤ 112 →
+-- sums of taps of weight 112 times samples in sixteen lanes
+pub sixteen_small : (taps : List ℤ) (samples : List ℕ) (place : ℕ → ℕ → ℕ) (lanes : List ℤ) → weight_of taps ≤ 112 →
     ((i : ℕ) → Fits w8 (slice_index_or samples i 0)) → length lanes ≡ 16 →
-    ((j : ℕ) → j < 16 → lane lanes j ≡ strided_sum taps samples (at + j) step) → (j : ℕ) → unsigned_abs (lane lanes j) ≤ 28560
-sixteen_small taps samples at step lanes light bytes count each =
+    ((j : ℕ) → j < 16 → lane lanes j ≡ placed_sum taps samples (place j)) → (j : ℕ) → unsigned_abs (lane lanes j) ≤ 28560
+sixteen_small taps samples place lanes light bytes count each =
     of_lanes 16 (λ z. unsigned_abs z ≤ 28560) lanes (omega arith) count
-    (λ j below. subst (λ z. unsigned_abs z ≤ 28560) (sym (each j below)) (size_of_placed_sum taps samples (λ k. at + j + k * step) light bytes))
+    (λ j below. subst (λ z. unsigned_abs z ≤ 28560) (sym (each j below)) (size_of_placed_sum taps samples (place j) light bytes))
 
 pub sums_in_turn : (taps : List ℤ) (samples : List ℕ) (at : ℕ) (even odd lanes : List ℤ) →
     ((i : ℕ) → i < 8 → lane lanes (2 * i) ≡ lane even i) → ((i : ℕ) → i < 8 → lane lanes (2 * i + 1) ≡ lane odd i) →
@@ -290,11 +324,23 @@ pub sums_in_turn : (taps : List ℤ) (samples : List ℕ) (at : ℕ) (even odd l
     ((i : ℕ) → i < 8 → lane odd i ≡ strided_sum taps samples (at + 1 + 2 * i) 1) →
     (j : ℕ) → j < 16 → lane lanes j ≡ strided_sum taps samples (at + j) 1
 sums_in_turn taps samples at even odd lanes turns others evens odds =
-    by_turns (λ j. lane lanes j ≡ strided_sum taps samples (at + j) 1)
+    by_turns 8 (λ j. lane lanes j ≡ strided_sum taps samples (at + j) 1)
     (λ i below. turns i below ∙ evens i below)
     (λ i below.
     let next : at + 1 + 2 * i ≡ at + (2 * i + 1) = omega arith in
     others i below ∙ odds i below ∙ ap (λ p. strided_sum taps samples p 1) next)
+
+pub sums_in_order : (taps : List ℤ) (samples : List ℕ) (at step : ℕ) (low high lanes : List ℤ) →
+    ((i : ℕ) → i < 8 → lane lanes i ≡ lane low i) → ((i : ℕ) → i < 8 → lane lanes (8 + i) ≡ lane high i) →
+    ((i : ℕ) → i < 8 → lane low i ≡ placed_sum taps samples (paired_place (at + 2 * i) step)) →
+    ((i : ℕ) → i < 8 → lane high i ≡ placed_sum taps samples (paired_place (at + 16 + 2 * i) step)) →
+    (j : ℕ) → j < 16 → lane lanes j ≡ placed_sum taps samples (paired_place (at + 2 * j) step)
+sums_in_order taps samples at step low high lanes lows highs first second =
+    by_halves (λ j. lane lanes j ≡ placed_sum taps samples (paired_place (at + 2 * j) step))
+    (λ i below. lows i below ∙ first i below)
+    (λ i below.
+    let next : at + 16 + 2 * i ≡ at + 2 * (8 + i) = omega arith in
+    highs i below ∙ second i below ∙ ap (λ p. placed_sum taps samples (paired_place p step)) next)
 
 pub length-passed : (lanes : List ℤ) → length lanes ≡ 16 → length (map (to_z w16) (map (of_z w16) lanes)) ≡ 16
 length-passed lanes count = length-map (map (of_z w16) lanes) (to_z w16) ∙ length-map lanes (of_z w16) ∙ count

@@ -45,6 +45,10 @@ strided_total_of count taps numbers at step = strided_total (take count taps) nu
 abbrev pub place_of : ℕ → ℕ → ℕ → ℕ
 place_of n stride k = k / n * stride + k % n
 
+-- the sample at place k of rows of n samples that are woven with the next
+abbrev pub woven_place : ℕ → ℕ → ℕ → ℕ
+woven_place n stride k = (k / (2 * n) + k % (2 * n) % 2) * stride + k % (2 * n) / 2
+
 -- what a block has where so many taps meet samples a step from one another
 abbrev pub filtered : List ℤ → List ℕ → ℕ → ℕ → ℕ → ℕ → ℕ
 filtered taps samples stride step n k =

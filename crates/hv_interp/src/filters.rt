@@ -7,6 +7,7 @@ ghost use Rattle.hv_inter_model.specs.Interpolation.{weighted_sample};
 ghost use Rattle.hv_interp.specs.Filters.{HasFirst, HoldsTaps, filtered, place_of, strided_sum, strided_total, weight_of};
 ghost use Rattle.hv_interp.specs.Lanes.{AreSpread};
 
+use crate::columns::filter_columns_in;
 use crate::lanes::{eight_sums, put_16_samples, put_16_sums, put_samples, put_sums};
 use crate::pairs::{sixteen_sums, spread};
 use crate::totals::{eight_totals, put_totals};
@@ -174,6 +175,8 @@ pub(crate) fn filter_rows<const T: usize>(
 }
 
 /// Filters a block of `size` columns and rows down its columns.
+///
+/// The usual sizes have functions with room of their own, so that no call clears more than its share.
 #[inline(never)]
 pub(crate) fn filter_columns<const T: usize>(
     taps: &[i8; T],
@@ -184,6 +187,7 @@ pub(crate) fn filter_columns<const T: usize>(
 )
     requires some { 0 < T }
     requires most { T ≤ 8 }
+    requires even { 2 * (T / 2) ≡ T }
     requires light { weight_of taps.now ≤ 112 }
     requires stride { stride < 2 ^ 32 }
     requires size { size ≤ 64 }
@@ -191,7 +195,15 @@ pub(crate) fn filter_columns<const T: usize>(
     requires room { length out.old ≡ size * size }
     ensures { HasFirst 0 (size * size) (filtered taps.now samples.now stride stride size) out.new }
 {
-    filter(taps, samples, stride, stride, size, out);
+    if size == 16 {
+        filter_columns_in::<T, 704>(taps, samples, stride, size, out);
+    } else if size == 32 {
+        filter_columns_in::<T, 2432>(taps, samples, stride, size, out);
+    } else if size == 64 {
+        filter_columns_in::<T, 8960>(taps, samples, stride, size, out);
+    } else {
+        filter(taps, samples, stride, stride, size, out);
+    }
 }
 
 /// Sums along rows, eight columns at a time: so many rows of `size` sums, one behind the other.

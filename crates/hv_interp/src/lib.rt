@@ -1,6 +1,7 @@
 //! Inter prediction of a block of samples from a reference picture (8.5.3.3.3, 8.5.3.3.4.2).
 #![tactic(auto)]
 
+mod columns;
 mod filters;
 mod interpolate;
 mod lanes;

@@ -129,3 +129,43 @@ pub(crate) fn sixteen_sums<const T: usize>(
     let odd = paired_sums(taps, spread, samples, at + 1, 2);
     in_turn(even, odd)
 }
+
+/// Eight lanes, and eight more behind them.
+#[inline(always)]
+fn in_order(low: i16x8, high: i16x8) -> i16x16
+    requires low_eight { length low ≡ 8 }
+    requires high_eight { length high ≡ 8 }
+    requires low_numbers { (j : ℕ) → FitsSigned w16 (lane low j) }
+    requires high_numbers { (j : ℕ) → FitsSigned w16 (lane high j) }
+    ensures count { length result ≡ 16 }
+    ensures low { (j : ℕ) → j < 8 → lane result j ≡ lane low j }
+    ensures high { (j : ℕ) → j < 8 → lane result (8 + j) ≡ lane high j }
+{
+    low.shuffle(high, [0, 1, 2, 3, 4, 5, 6, 7, 8, 9, 10, 11, 12, 13, 14, 15])
+}
+
+/// Sixteen sums, as `paired_sums` has eight.
+#[inline(always)]
+pub(crate) fn sixteen_paired_sums<const T: usize>(
+    taps: &[i8; T],
+    spread: &[i8; 64],
+    samples: &[u8],
+    at: usize,
+    step: usize,
+) -> i16x16
+    requires most { T ≤ 8 }
+    requires even { 2 * (T / 2) ≡ T }
+    requires light { weight_of taps.now ≤ 112 }
+    requires spread { AreSpread T taps.now spread.now }
+    requires at { at < 2 ^ 47 }
+    requires step { step < 2 ^ 32 }
+    requires inside { (p : ℕ) → p < T / 2 → at + p * step + 32 ≤ length samples.now }
+    ensures count { length result ≡ 16 }
+    ensures each { (j : ℕ) → j < 16 →
+        lane result j ≡ placed_sum taps.now samples.now (paired_place (at + 2 * j) step) }
+    ensures range { (j : ℕ) → unsigned_abs (lane result j) ≤ 28560 }
+{
+    let low = paired_sums(taps, spread, samples, at, step);
+    let high = paired_sums(taps, spread, samples, at + 16, step);
+    in_order(low, high)
+}

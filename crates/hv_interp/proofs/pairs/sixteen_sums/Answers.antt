@@ -28,10 +28,10 @@ returns-clause-each g c =
     (λ i below. c.in_turn.ensures.odd i below ∙ ap (λ l. lane l i) (kept odd (small_fit odd c.paired_sums-odd.ensures.range)))
     (λ i below. c.paired_sums-even.ensures.each i below ∙ one_apart taps samples (at + 2 * i))
     (λ i below. c.paired_sums-odd.ensures.each i below ∙ one_apart taps samples (at + 1 + 2 * i)) in
-    let small = sixteen_small taps samples at 1 c.in_turn.result c.requires.light c.type_inv.samples c.in_turn.ensures.count each in
+    let small = sixteen_small taps samples (λ j k. at + j + k * 1) c.in_turn.result c.requires.light c.type_inv.samples c.in_turn.ensures.count each in
     (λ j below. ap (λ l. lane l j) (kept c.in_turn.result (small_fit c.in_turn.result small)) ∙ each j below)
 
 pub returns-clause-range : goal.returns-clause-range
 returns-clause-range g c =
-    sixteen_small c.args.taps.now c.args.samples.now c.args.at 1 _ c.requires.light c.type_inv.samples
+    sixteen_small c.args.taps.now c.args.samples.now (λ j k. c.args.at + j + k * 1) _ c.requires.light c.type_inv.samples
     (length-passed c.in_turn.result c.in_turn.ensures.count) (returns-clause-each g c)

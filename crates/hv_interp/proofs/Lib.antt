@@ -1,6 +1,8 @@
+mod ColumnLemmas
 mod EightSumLemmas
 mod InterpolationLemmas
 mod LaneLemmas
+mod PairLemmas
 pub mod PlaceLemmas
 mod PredictionLemmas
 mod RoundedLaneLemmas

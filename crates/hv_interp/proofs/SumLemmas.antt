@@ -11,7 +11,7 @@ use Rattle.std.proofs.Math.Nat.{mul-le-mul_right, mul-le-mul_left, add-mul}
 use Rattle.hv_lemmas.proofs.SignedLemmas.{size_of_sum}
 use Rattle.hv_lanes.proofs.NumberLemmas.{small_number}
 use Rattle.hv_inter_model.specs.Interpolation.{weighted}
-use Rattle.hv_interp.specs.Filters.{weight_of, strided_sum, strided_sum_of, strided_total, strided_total_of}
+use Rattle.hv_interp.specs.Filters.{weight_of, placed_sum, placed_sum_of, strided_sum, strided_sum_of, strided_total, strided_total_of}
 
 -- one product more
 pub weighted_more : (taps : List ℤ) (k : ℕ) (f : ℕ → ℤ) → k < length taps →
@@ -45,24 +45,35 @@ size_of_weighted (tap ∷ taps) f most small =
     let spread = add-mul (unsigned_abs tap) (weight_of taps) most in
     omega (arith, first, later, product, joined, spread)
 
+pub placed_sum_of_none : (taps : List ℤ) (samples : List ℕ) (place : ℕ → ℕ) → placed_sum_of 0 taps samples place ≡ pos 0
+unfolding placed_sum_of
+placed_sum_of_none taps samples place = refl
+
+pub placed_sum_of_more : (k : ℕ) (taps : List ℤ) (samples : List ℕ) (place : ℕ → ℕ) → k < length taps →
+    placed_sum_of (k + 1) taps samples place ≡
+    placed_sum_of k taps samples place +ℤ (slice_index_or taps k (pos 0) *ℤ pos (slice_index_or samples (place k) 0))
+unfolding placed_sum_of
+placed_sum_of_more k taps samples place below =
+    rw (add-one) (weighted_more taps k (λ k. pos (slice_index_or samples (place k) 0)) below)
+
+pub placed_sum_of_all : (k : ℕ) (taps : List ℤ) (samples : List ℕ) (place : ℕ → ℕ) → length taps ≤ k →
+    placed_sum_of k taps samples place ≡ placed_sum taps samples place
+unfolding placed_sum_of
+placed_sum_of_all k taps samples place all = ap (λ t. placed_sum t samples place) (take_all k taps all)
+
 pub strided_sum_of_none : (taps : List ℤ) (samples : List ℕ) (at step : ℕ) →
     strided_sum_of 0 taps samples at step ≡ pos 0
-unfolding strided_sum_of
-strided_sum_of_none taps samples at step = refl
+strided_sum_of_none taps samples at step = placed_sum_of_none taps samples (λ k. at + k * step)
 
 pub strided_sum_of_more : (k : ℕ) (taps : List ℤ) (samples : List ℕ) (at step : ℕ) → k < length taps →
     strided_sum_of (k + 1) taps samples at step ≡
     strided_sum_of k taps samples at step +ℤ
     (slice_index_or taps k (pos 0) *ℤ pos (slice_index_or samples (at + k * step) 0))
-unfolding strided_sum_of
-strided_sum_of_more k taps samples at step below =
-    rw (add-one) (weighted_more taps k (λ k. pos (slice_index_or samples (at + k * step) 0)) below)
+strided_sum_of_more k taps samples at step below = placed_sum_of_more k taps samples (λ k. at + k * step) below
 
 pub strided_sum_of_all : (k : ℕ) (taps : List ℤ) (samples : List ℕ) (at step : ℕ) → length taps ≤ k →
     strided_sum_of k taps samples at step ≡ strided_sum taps samples at step
-unfolding strided_sum_of
-strided_sum_of_all k taps samples at step all =
-    ap (λ t. strided_sum t samples at step) (take_all k taps all)
+strided_sum_of_all k taps samples at step all = placed_sum_of_all k taps samples (λ k. at + k * step) all
 
 pub strided_total_of_none : (taps : List ℤ) (samples : List ℤ) (at step : ℕ) →
     strided_total_of 0 taps samples at step ≡ pos 0
@@ -88,11 +99,11 @@ pub kept_32 : (z : ℤ) (most : ℕ) → unsigned_abs z ≤ most → most < 2147
 kept_32 z most small few = to_z-of_z w32 z (fits_signed_from_abs w32 z (omega arith))
 
 -- the sum of taps of weight 112 times bytes
-pub size_of_strided_sum : (taps : List ℤ) (samples : List ℕ) (at step : ℕ) → weight_of taps ≤ 112 →
-    ((i : ℕ) → Fits w8 (slice_index_or samples i 0)) → unsigned_abs (strided_sum taps samples at step) ≤ 28560
-size_of_strided_sum taps samples at step light bytes =
-    let sum = size_of_weighted taps (λ k. pos (slice_index_or samples (at + k * step) 0)) 255
-    (λ k. omega (arith, (bytes (at + k * step)).fits)) in
+pub size_of_placed_sum : (taps : List ℤ) (samples : List ℕ) (place : ℕ → ℕ) → weight_of taps ≤ 112 →
+    ((i : ℕ) → Fits w8 (slice_index_or samples i 0)) → unsigned_abs (placed_sum taps samples place) ≤ 28560
+size_of_placed_sum taps samples place light bytes =
+    let sum = size_of_weighted taps (λ k. pos (slice_index_or samples (place k) 0)) 255
+    (λ k. omega (arith, (bytes (place k)).fits)) in
     let most : weight_of taps * 255 ≤ 112 * 255 = mul-le-mul_right 255 light in
     omega (arith, sum, most)
 
@@ -101,7 +112,7 @@ pub sum_fits : (taps : List ℤ) (samples : List ℕ) (at step : ℕ) (z : ℤ) 
     ((i : ℕ) → Fits w8 (slice_index_or samples i 0)) → z ≡ strided_sum taps samples at step → SFits w16 z
 sum_fits taps samples at step z light bytes e =
     rw (e) (fits_signed_from_abs w16 (strided_sum taps samples at step)
-    (omega (arith, size_of_strided_sum taps samples at step light bytes)))
+    (omega (arith, size_of_placed_sum taps samples (λ k. at + k * step) light bytes)))
 
 weight_of_take : (k : ℕ) (taps : List ℤ) → weight_of (take k taps) ≤ weight_of taps
 weight_of_take zero taps = omega arith
@@ -109,17 +120,29 @@ weight_of_take (suc k) [] = omega arith
 weight_of_take (suc k) (tap ∷ taps) = omega (arith, weight_of_take k taps)
 
 -- the sum of the first of them
-pub size_of_strided_sum_of : (k : ℕ) (taps : List ℤ) (samples : List ℕ) (at step : ℕ) → weight_of taps ≤ 112 →
-    ((i : ℕ) → Fits w8 (slice_index_or samples i 0)) → unsigned_abs (strided_sum_of k taps samples at step) ≤ 28560
-unfolding strided_sum_of
-size_of_strided_sum_of k taps samples at step light bytes =
-    size_of_strided_sum (take k taps) samples at step (omega (arith, light, weight_of_take k taps)) bytes
+pub size_of_placed_sum_of : (k : ℕ) (taps : List ℤ) (samples : List ℕ) (place : ℕ → ℕ) → weight_of taps ≤ 112 →
+    ((i : ℕ) → Fits w8 (slice_index_or samples i 0)) → unsigned_abs (placed_sum_of k taps samples place) ≤ 28560
+unfolding placed_sum_of
+size_of_placed_sum_of k taps samples place light bytes =
+    size_of_placed_sum (take k taps) samples place (omega (arith, light, weight_of_take k taps)) bytes
 
 -- a tap is no heavier than all
 tap_small : (taps : List ℤ) (k : ℕ) → unsigned_abs (slice_index_or taps k (pos 0)) ≤ weight_of taps
 tap_small [] k = omega arith
 tap_small (tap ∷ taps) zero = omega arith
 tap_small (tap ∷ taps) (suc k) = omega (arith, tap_small taps k)
+
+-- nor are two
+pub two_taps_small : (taps : List ℤ) (k : ℕ) →
+    unsigned_abs (slice_index_or taps k (pos 0)) + unsigned_abs (slice_index_or taps (k + 1) (pos 0)) ≤ weight_of taps
+two_taps_small [] k = omega arith
+two_taps_small (tap ∷ taps) zero = omega (arith, tap_small taps 0)
+two_taps_small (tap ∷ taps) (suc k) =
+    let next : suc k + 1 ≡ suc (k + 1) = omega arith in
+    let first : unsigned_abs (slice_index_or (tap ∷ taps) (suc k) (pos 0)) ≡ unsigned_abs (slice_index_or taps k (pos 0)) = refl in
+    let second : unsigned_abs (slice_index_or (tap ∷ taps) (suc k + 1) (pos 0)) ≡ unsigned_abs (slice_index_or taps (k + 1) (pos 0)) =
+    ap (λ i. unsigned_abs (slice_index_or (tap ∷ taps) i (pos 0))) next in
+    omega (arith, first, second, two_taps_small taps k)
 
 pub taps_fit : (taps : List ℤ) → weight_of taps ≤ 112 → (k : ℕ) → SFits w16 (slice_index_or taps k (pos 0))
 taps_fit taps light k = fits_signed_from_abs w16 (slice_index_or taps k (pos 0)) (omega (arith, light, tap_small taps k))

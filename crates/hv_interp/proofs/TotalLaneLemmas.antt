@@ -65,7 +65,7 @@ right n k xs ys l m p f =
     get_or-map (of_z w16) ys k (pos 0) 0 (omega (arith, p, m)) in
     ap (λ m. of_z w32 (to_z w16 m)) is ∙ ap (of_z w32) (to_z-of_z w16 (lane ys k) f)
 
-product_is : (m n : ℕ) (x t : ℤ) → m ≡ of_z w32 x → n ≡ of_z w32 t → SFits w32 x → SFits w32 t →
+pub product_is : (m n : ℕ) (x t : ℤ) → m ≡ of_z w32 x → n ≡ of_z w32 t → SFits w32 x → SFits w32 t →
     to_z w32 (m * n % 4294967296) ≡ int_wrap w32 (t *ℤ x)
 product_is m n x t e f fx ft =
     ap₂ (λ a b. to_z w32 (a * b % 4294967296)) e f ∙ wrapping_mul_is w32 x t fx ft ∙ ap (int_wrap w32) (*ℤ_comm x t)
@@ -118,7 +118,7 @@ pub totals_small : (k : ℕ) (taps numbers lanes : List ℤ) (at step : ℕ) →
     ((i : ℕ) → SFits w16 (lane numbers i)) → AreTotals k taps numbers at step lanes →
     (j : ℕ) → unsigned_abs (lane lanes j) ≤ 3670016
 totals_small k taps numbers lanes at step light fits sums =
-    of_lanes (λ z. unsigned_abs z ≤ 3670016) lanes (omega arith) sums.eight
+    of_lanes 8 (λ z. unsigned_abs z ≤ 3670016) lanes (omega arith) sums.eight
     (λ j below. subst (λ z. unsigned_abs z ≤ 3670016) (sym (sums.each j below))
     (size_of_strided_total_of k taps numbers (at + j) step light fits))
 

@@ -14,14 +14,24 @@ abbrev pub weight_of : List ℤ → ℕ
 weight_of [] = 0
 weight_of (tap ∷ taps) = unsigned_abs tap + weight_of taps
 
--- the sum of taps times samples, from place `at` on, each `step` behind the other
-abbrev pub strided_sum : List ℤ → List ℕ → ℕ → ℕ → ℤ
-strided_sum taps samples at step =
-    weighted taps (λ k. pos (slice_index_or samples (at + k * step) 0))
+-- the sum of taps times samples, each in its place
+abbrev pub placed_sum : List ℤ → List ℕ → (ℕ → ℕ) → ℤ
+placed_sum taps samples place = weighted taps (λ k. pos (slice_index_or samples (place k) 0))
 
 -- the same of the first taps alone
-unfoldable pub strided_sum_of : ℕ → List ℤ → List ℕ → ℕ → ℕ → ℤ
-strided_sum_of count taps samples at step = strided_sum (take count taps) samples at step
+unfoldable pub placed_sum_of : ℕ → List ℤ → List ℕ → (ℕ → ℕ) → ℤ
+placed_sum_of count taps samples place = placed_sum (take count taps) samples place
+
+-- from place `at` on, each `step` behind the other
+abbrev pub strided_sum : List ℤ → List ℕ → ℕ → ℕ → ℤ
+strided_sum taps samples at step = placed_sum taps samples (λ k. at + k * step)
+
+abbrev pub strided_sum_of : ℕ → List ℤ → List ℕ → ℕ → ℕ → ℤ
+strided_sum_of count taps samples at step = placed_sum_of count taps samples (λ k. at + k * step)
+
+-- two neighbours for each pair of taps, those of each pair `step` behind the ones before
+abbrev pub paired_place : ℕ → ℕ → ℕ → ℕ
+paired_place at step k = at + k / 2 * step + k % 2
 
 -- the same of numbers with a sign
 abbrev pub strided_total : List ℤ → List ℤ → ℕ → ℕ → ℤ
@@ -34,6 +44,10 @@ strided_total_of count taps numbers at step = strided_total (take count taps) nu
 -- the place in a window of place k of a block
 abbrev pub place_of : ℕ → ℕ → ℕ → ℕ
 place_of n stride k = k / n * stride + k % n
+
+-- the sample at place k of rows of n samples that are woven with the next
+abbrev pub woven_place : ℕ → ℕ → ℕ → ℕ
+woven_place n stride k = (k / (2 * n) + k % (2 * n) % 2) * stride + k % (2 * n) / 2
 
 -- what a block has where so many taps meet samples a step from one another
 abbrev pub filtered : List ℤ → List ℕ → ℕ → ℕ → ℕ → ℕ → ℕ

@@ -5,8 +5,11 @@ ghost use Rattle.std.specs.Int.RustNames.{FitsSigned, unsigned_abs};
 ghost use mir.Syntax.{w16};
 ghost use Rattle.hv_inter_model.specs.Interpolation.{weighted_sample};
 ghost use Rattle.hv_interp.specs.Filters.{HasFirst, HoldsTaps, filtered, place_of, strided_sum, strided_total, weight_of};
+ghost use Rattle.hv_interp.specs.Lanes.{AreSpread};
 
-use crate::lanes::{eight_sums, put_samples, put_sums};
+use crate::columns::filter_columns_in;
+use crate::lanes::{eight_sums, put_16_samples, put_16_sums, put_samples, put_sums};
+use crate::pairs::{sixteen_sums, spread};
 use crate::totals::{eight_totals, put_totals};
 use std::simd::prelude::*;
 
@@ -110,9 +113,42 @@ fn filter<const T: usize>(
     }
 }
 
-/// Filters a block of `size` columns and rows along rows.
+/// Filters a block of `size` columns and rows along rows, sixteen columns at a time.
 ///
-/// It isn't inlined, and has a function of its own since the compiler then knows the step.
+/// It isn't inlined, so that the compiler doesn't know the taps, and multiplies pairs.
+#[inline(never)]
+fn filter_by_sixteens<const T: usize>(
+    taps: &[i8; T],
+    spread: &[i8; 64],
+    samples: &[u8],
+    stride: usize,
+    size: usize,
+    out: &mut [u8],
+)
+    requires some { 0 < T }
+    requires most { T ≤ 8 }
+    requires even { 2 * (T / 2) ≡ T }
+    requires light { weight_of taps.now ≤ 112 }
+    requires spread { AreSpread T taps.now spread.now }
+    requires stride { stride < 2 ^ 32 }
+    requires size { size ≤ 64 }
+    requires inside { HoldsTaps samples.now stride 1 T size size }
+    requires room { length out.old ≡ size * size }
+    ensures { HasFirst 0 (size * size) (filtered taps.now samples.now stride 1 size) out.new }
+{
+    for y in 0..size {
+        for g in 0..size / 16 {
+            let sums = sixteen_sums(taps, spread, samples, y * stride + 16 * g);
+            put_16_samples(sums, &mut out[y * size + 16 * g..y * size + 16 * g + 16]);
+        }
+        for r in 0..size % 16 {
+            let x = size / 16 * 16 + r;
+            out[y * size + x] = rounded(sum_of_samples(taps, samples, y * stride + x, 1));
+        }
+    }
+}
+
+/// Filters a block of `size` columns and rows along rows.
 #[inline(never)]
 pub(crate) fn filter_rows<const T: usize>(
     taps: &[i8; T],
@@ -123,6 +159,7 @@ pub(crate) fn filter_rows<const T: usize>(
 )
     requires some { 0 < T }
     requires most { T ≤ 8 }
+    requires even { 2 * (T / 2) ≡ T }
     requires light { weight_of taps.now ≤ 112 }
     requires stride { stride < 2 ^ 32 }
     requires size { size ≤ 64 }
@@ -130,10 +167,16 @@ pub(crate) fn filter_rows<const T: usize>(
     requires room { length out.old ≡ size * size }
     ensures { HasFirst 0 (size * size) (filtered taps.now samples.now stride 1 size) out.new }
 {
-    filter(taps, samples, stride, 1, size, out);
+    if size < 16 {
+        filter(taps, samples, stride, 1, size, out);
+    } else {
+        filter_by_sixteens(taps, &spread(taps), samples, stride, size, out);
+    }
 }
 
 /// Filters a block of `size` columns and rows down its columns.
+///
+/// The usual sizes have functions with room of their own, so that no call clears more than its share.
 #[inline(never)]
 pub(crate) fn filter_columns<const T: usize>(
     taps: &[i8; T],
@@ -144,6 +187,7 @@ pub(crate) fn filter_columns<const T: usize>(
 )
     requires some { 0 < T }
     requires most { T ≤ 8 }
+    requires even { 2 * (T / 2) ≡ T }
     requires light { weight_of taps.now ≤ 112 }
     requires stride { stride < 2 ^ 32 }
     requires size { size ≤ 64 }
@@ -151,11 +195,20 @@ pub(crate) fn filter_columns<const T: usize>(
     requires room { length out.old ≡ size * size }
     ensures { HasFirst 0 (size * size) (filtered taps.now samples.now stride stride size) out.new }
 {
-    filter(taps, samples, stride, stride, size, out);
+    if size == 16 {
+        filter_columns_in::<T, 704>(taps, samples, stride, size, out);
+    } else if size == 32 {
+        filter_columns_in::<T, 2432>(taps, samples, stride, size, out);
+    } else if size == 64 {
+        filter_columns_in::<T, 8960>(taps, samples, stride, size, out);
+    } else {
+        filter(taps, samples, stride, stride, size, out);
+    }
 }
 
-/// Sums along rows: so many of `size`, one behind the other.
-pub(crate) fn sum_rows<const T: usize>(
+/// Sums along rows, eight columns at a time: so many rows of `size` sums, one behind the other.
+#[inline(always)]
+fn sum_by_eights<const T: usize>(
     taps: &[i8; T],
     samples: &[u8],
     stride: usize,
@@ -184,6 +237,72 @@ pub(crate) fn sum_rows<const T: usize>(
             let x = size / 8 * 8 + r;
             sums[y * size + x] = sum_of_samples(&weights, samples, y * stride + x, 1) as i16;
         }
+    }
+}
+
+/// The same, sixteen columns at a time.
+///
+/// It isn't inlined, so that the compiler doesn't know the taps, and multiplies pairs.
+#[inline(never)]
+fn sum_by_sixteens<const T: usize>(
+    taps: &[i8; T],
+    spread: &[i8; 64],
+    samples: &[u8],
+    stride: usize,
+    size: usize,
+    rows: usize,
+    sums: &mut [i16],
+)
+    requires some { 0 < T }
+    requires most { T ≤ 8 }
+    requires even { 2 * (T / 2) ≡ T }
+    requires light { weight_of taps.now ≤ 112 }
+    requires spread { AreSpread T taps.now spread.now }
+    requires stride { stride < 2 ^ 32 }
+    requires size { size ≤ 64 }
+    requires rows { rows ≤ 71 }
+    requires inside { HoldsTaps samples.now stride 1 T size rows }
+    requires room { rows * size ≤ length sums.old }
+    ensures { HasFirst (pos 0) (rows * size)
+        (λ k. strided_sum taps.now samples.now (place_of size stride k) 1) sums.new }
+{
+    for y in 0..rows {
+        for g in 0..size / 16 {
+            let part = sixteen_sums(taps, spread, samples, y * stride + 16 * g);
+            put_16_sums(part, &mut sums[y * size + 16 * g..y * size + 16 * g + 16]);
+        }
+        for r in 0..size % 16 {
+            let x = size / 16 * 16 + r;
+            sums[y * size + x] = sum_of_samples(taps, samples, y * stride + x, 1) as i16;
+        }
+    }
+}
+
+/// Sums along rows: so many rows of `size`, one behind the other.
+pub(crate) fn sum_rows<const T: usize>(
+    taps: &[i8; T],
+    samples: &[u8],
+    stride: usize,
+    size: usize,
+    rows: usize,
+    sums: &mut [i16],
+)
+    requires some { 0 < T }
+    requires most { T ≤ 8 }
+    requires even { 2 * (T / 2) ≡ T }
+    requires light { weight_of taps.now ≤ 112 }
+    requires stride { stride < 2 ^ 32 }
+    requires size { size ≤ 64 }
+    requires rows { rows ≤ 71 }
+    requires inside { HoldsTaps samples.now stride 1 T size rows }
+    requires room { rows * size ≤ length sums.old }
+    ensures { HasFirst (pos 0) (rows * size)
+        (λ k. strided_sum taps.now samples.now (place_of size stride k) 1) sums.new }
+{
+    if size < 16 {
+        sum_by_eights(taps, samples, stride, size, rows, sums);
+    } else {
+        sum_by_sixteens(taps, &spread(taps), samples, stride, size, rows, sums);
     }
 }
 

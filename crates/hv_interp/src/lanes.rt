@@ -23,7 +23,7 @@ fn add_tap(sums: i16x8, tap: i16, samples: &[u8]) -> i16x8
 
 /// Eight sums of 0.
 #[inline(always)]
-fn no_sums() -> i16x8
+pub(crate) fn no_sums() -> i16x8
     ensures count { length result ≡ 8 }
     ensures each { (j : ℕ) → lane result j ≡ pos 0 }
 {
@@ -74,12 +74,39 @@ pub(crate) fn put_samples(sums: i16x8, out: &mut [u8])
         .copy_to_slice(out);
 }
 
+/// The same of sixteen.
+#[inline(always)]
+pub(crate) fn put_16_samples(sums: i16x16, out: &mut [u8])
+    requires sixteen { length sums ≡ 16 }
+    requires range { (j : ℕ) → unsigned_abs (lane sums j) ≤ 28560 }
+    requires room { length out.old ≡ 16 }
+    ensures count { length out.new ≡ 16 }
+    ensures each { (j : ℕ) → j < 16 →
+        slice_index_or out.new j 0 ≡ weighted_sample (lane sums j) }
+{
+    ((sums + i16x16::splat(32)) >> i16x16::splat(6))
+        .simd_clamp(i16x16::splat(0), i16x16::splat(255))
+        .cast::<u8>()
+        .copy_to_slice(out);
+}
+
 /// Writes eight sums.
 #[inline(always)]
 pub(crate) fn put_sums(sums: i16x8, out: &mut [i16])
     requires eight { length sums ≡ 8 }
     requires range { (j : ℕ) → unsigned_abs (lane sums j) ≤ 28560 }
     requires room { length out.old ≡ 8 }
+    ensures { out.new ≡ sums }
+{
+    sums.copy_to_slice(out);
+}
+
+/// Writes sixteen sums.
+#[inline(always)]
+pub(crate) fn put_16_sums(sums: i16x16, out: &mut [i16])
+    requires sixteen { length sums ≡ 16 }
+    requires range { (j : ℕ) → unsigned_abs (lane sums j) ≤ 28560 }
+    requires room { length out.old ≡ 16 }
     ensures { out.new ≡ sums }
 {
     sums.copy_to_slice(out);

@@ -5,28 +5,8 @@ use Rattle.hv_interp.proofs.InterpolationLemmas.{rows_are_filtered, columns_are_
 use Rattle.hv_interp.proofs.interpolate.interpolate.Goals as goal
 
 pub filter_columns-requires : goal.filter_columns-requires
-filter_columns-requires g c = (
-  omega arith,
-  (
-    omega (arith, c.requires.before),
-    (
-      c.requires.most,
-      (
-        c.requires.down_light,
-        (
-          c.requires.stride,
-          (
-            c.requires.size,
-            (
-              columns_inside c.args.before g.row.T c.args.stride c.args.size c.args.samples.now c.requires.before c.requires.inside,
-              c.requires.room,
-            ),
-          ),
-        ),
-      ),
-    ),
-  ),
-)
+filter_columns-requires g c =
+    (omega arith, (omega (arith, c.requires.before), (c.requires.most, (omega (arith, c.requires.before), (c.requires.down_light, (c.requires.stride, (c.requires.size, (columns_inside c.args.before g.row.T c.args.stride c.args.size c.args.samples.now c.requires.before c.requires.inside, c.requires.room))))))))
 
 pub returns-else-below-eq0 : goal.returns-else-below-eq0
 returns-else-below-eq0 g c k inside =

@@ -8,14 +8,14 @@ use Rattle.hv_interp.proofs.EightSumLemmas.{no_tap, sums_small, sums_fit, one_ta
 use Rattle.hv_interp.proofs.lanes.eight_sums.Goals as goal
 
 pub loop-k-init : goal.loop-k-init
-loop-k-init g c = no_tap c.args.taps.now c.args.samples.now c.args.at c.args.step c.no_sums-sums.result c.no_sums-sums.ensures.count c.no_sums-sums.ensures.each
+loop-k-init g c = no_tap c.args.taps.now c.args.samples.now (λ j k. c.args.at + j + k * c.args.step) c.no_sums-sums.result c.no_sums-sums.ensures.count c.no_sums-sums.ensures.each
 
 pub add_tap-sums-requires-clause-eight : goal.add_tap-sums-requires-clause-eight
 add_tap-sums-requires-clause-eight g c = c.loop-k.invariant.eight
 
 pub add_tap-sums-requires-clause-before : goal.add_tap-sums-requires-clause-before
 add_tap-sums-requires-clause-before g c =
-    sums_fit c.loop-k.k c.args.taps.now c.args.samples.now c.args.at c.args.step (map (to_z w16) c.loop-k.sums) c.requires.light c.type_inv.samples c.loop-k.invariant
+    sums_fit c.loop-k.k c.args.taps.now c.args.samples.now (λ j k. c.args.at + j + k * c.args.step) (map (to_z w16) c.loop-k.sums) c.requires.light c.type_inv.samples c.loop-k.invariant
 
 pub add_tap-sums-requires-clause-after : goal.add_tap-sums-requires-clause-after
 add_tap-sums-requires-clause-after g c =
@@ -41,4 +41,4 @@ returns-clause-each g c j below =
 
 pub returns-clause-range : goal.returns-clause-range
 returns-clause-range g c =
-    sums_small c.loop-k.k c.args.taps.now c.args.samples.now c.args.at c.args.step (map (to_z w16) c.loop-k.sums) c.requires.light c.type_inv.samples c.loop-k.invariant
+    sums_small c.loop-k.k c.args.taps.now c.args.samples.now (λ j k. c.args.at + j + k * c.args.step) (map (to_z w16) c.loop-k.sums) c.requires.light c.type_inv.samples c.loop-k.invariant

@@ -1,4 +1,7 @@
 pub mod ChosenDecodedLemmas
+pub mod DifferenceLemmas
+pub mod IntraAloneLemmas
+pub mod ReferenceLemmas
 pub mod SeenChoiceLemmas
 pub mod ValidChoiceLemmas
 mod WorkedChoices

@@ -6,4 +6,5 @@ pub mod SeenChoiceLemmas
 pub mod ValidChoiceLemmas
 mod WorkedChoices
 mod WorkedCosts
+mod WorkedInterChoices
 mod WorkedPictures

@@ -1,6 +1,6 @@
 -- What is chosen may be coded: levels fill their blocks and have 16 bits, modes are modes, and a
 -- node is split or a unit where it may be.
-use Rattle.std.proofs.Common.{◌≡◌, ℕ, zero, suc, ◌+◌, ◌-◌, ◌*◌, ◌/◌, ◌^◌, ◌<◌, ◌≤◌, Bool, true, false, cond, List, [], ◌∷◌, ◌++◌, length, map, refl, sym, ap₂, ◌∙◌, arith, ℤ, pos, negsuc, subst, true≢false}
+use Rattle.std.proofs.Common.{◌≡◌, ℕ, zero, suc, ◌+◌, ◌-◌, ◌*◌, ◌/◌, ◌^◌, ◌<◌, ◌≤◌, Bool, true, false, cond, List, [], ◌∷◌, ◌++◌, length, map, refl, sym, ap, ap₂, ◌∙◌, arith, ℤ, pos, negsuc, subst, true≢false}
 use Rattle.std.specs.Prelude.{flat_map, nat_lt, nat_eq, ◌&&◌, Option, Some, None}
 use Rattle.std.specs.List.{list_all}
 use Rattle.std.proofs.lemmas.List.{length-append, length-map}
@@ -358,6 +358,15 @@ valid_trees_in slice_type references task pictures may (site ∷ sites) done d h
       valid_trees_in slice_type references task pictures may sites _ _
           (same_references g greatest_size 0 tree d ∙ has),
     )
+
+-- without reference pictures, in a slice of any kind: no unit names one
+pub valid_intra_trees : (slice_type : SliceKind) (references : ℕ) (task : Task)
+    (sites : List Site) (done : List UnitSquare) (d : Decoded) → d.references ≡ [] →
+    AreTrees slice_type references sites (best_trees task sites done d)
+valid_intra_trees slice_type references task sites done d none =
+    valid_trees_in slice_type references task [] (λ site done before entry least has named.
+    let there : entry < length before.decoded.references = grind (arith, nat_tests, named) in
+    absurd (omega (arith, there, ap length has))) sites done d none
 
 -- with their vectors
 pub valid_trees : (task : Task) (sites : List Site) (done : List UnitSquare) (d : Decoded) →

@@ -8,7 +8,7 @@ use Rattle.hv_unit_model.specs.Bins.{bins_of_node}
 use Rattle.hv_syntax.specs.Squares.{Shows, NamesNode}
 use Rattle.hv_recon.specs.DecodedNodes.{IsNodeOfBlock}
 use Rattle.hv_filter_model.specs.Costs.{cost}
-use Rattle.hv_mode_model.specs.ModeDecision.{Given, Before, decoded_behind, node_square, squared_errors, cost_of}
+use Rattle.hv_mode_model.specs.ModeDecision.{Given, Before, decoded_behind, node_square, squared_errors, coded_node, cost_of}
 
 -- a node ends in the block
 pub node_in_block : (size address : ℕ) → IsNodeOfBlock size address → address + squares size ≤ 64
@@ -45,7 +45,7 @@ counted_here count s site plan size n address a same there counted =
 -- ---- the cost
 
 pub cost_is : (g : Given) (size address : ℕ) (before : Before) (tree planned : Tree)
-    (result errors bins : ℕ) → tree ≡ planned → result ≡ cost g.qp errors bins →
+    (result errors bins : ℕ) → coded_node g size address before tree ≡ planned → result ≡ cost g.qp errors bins →
     errors ≡
     squared_errors g.input (decoded_behind g size address tree before.decoded)
     (node_square g size address) →

@@ -25,7 +25,7 @@ use Rattle.hv_recon_model.proofs.WholeLocalityLemmas.{some_of_product}
 use Rattle.hv_recon.specs.Leaves.{AreSeen}
 use Rattle.hv_recon.specs.DecodedBlocks.{trees_from, trees_of, AreOfBlocks}
 use Rattle.hv_recon.proofs.PictureLemmas.{BlocksAreDecoded, none_decoded, seen_so, one_block_more, kept_by, BlocksFrom, from_start, are_of_blocks}
-use Rattle.hv_mode_model.specs.ModeDecision.{Task, Given, given_at, decoded_behind, best, best_tree, best_trees, best_decoded}
+use Rattle.hv_mode_model.specs.ModeDecision.{Task, Given, nothing_found, given_at, decoded_behind, best, best_tree, best_trees, best_decoded}
 use Rattle.hv_mode_model.proofs.ChosenDecodedLemmas.{decoded_node, corner_x, corner_y}
 use Rattle.hv_mode_model.proofs.SeenChoiceLemmas.{chosen_in_block}
 use Rattle.hv_mode.specs.declared.task.Task.{Task as BlockTask}
@@ -47,6 +47,8 @@ pub is_chosen : (t : BlockTask) (old new : Block) →
       input = t.input.now;
       slice_type = t.kind;
       references = t.references;
+      distances = [];
+      vectors = nothing_found;
     }) t.place t.near.now new
 is_chosen t old new decides names plan samples = record {
   plan = plan;

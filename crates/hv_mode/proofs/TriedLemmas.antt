@@ -1,6 +1,6 @@
 -- A node that is tried as one coding unit and split: what each costs, and the first that costs
 -- least.
-use Rattle.std.proofs.Common.{◌≡◌, ℕ, ◌+◌, ◌<◌, ◌≤◌, cond, sym, ap, ap₂, subst, ◌∙◌, []}
+use Rattle.std.proofs.Common.{◌≡◌, ℕ, zero, suc, ◌+◌, ◌-◌, ◌<◌, ◌≤◌, cond, refl, sym, ap, ap₂, subst, ◌∙◌, [], arith}
 use Rattle.std.specs.Prelude.{nat_lt}
 use Rattle.hv_lemmas.proofs.ComparisonLemmas.{lt_below, lt_not_below}
 use Rattle.hv_block.specs.declared.block.Block.{Block}
@@ -11,7 +11,8 @@ use Rattle.hv_syntax.specs.Squares.{Shows}
 use Rattle.hv_recon.specs.Leaves.{AreSeen}
 use Rattle.hv_recon.specs.DecodedNodes.{node_of_plan}
 use Rattle.hv_filter_model.specs.Costs.{cheaper}
-use Rattle.hv_mode_model.specs.ModeDecision.{Before, behind, decoded_behind, cost_of}
+use Rattle.hv_mode_model.specs.ModeDecision.{Given, Before, behind, decoded_behind, coded_node, cost_of, split_of, best}
+use Rattle.hv_mode_model.proofs.IntraAloneLemmas.{TriesNone, unit_as_it_is, split_as_it_is}
 use Rattle.hv_mode.specs.declared.task.Task.{Task}
 use Rattle.hv_mode.specs.Nodes.{given_of, Stands, Decides, leaf_choice}
 use Rattle.hv_mode.specs.SplitNodes.{split_choice, tried_choice}
@@ -38,7 +39,8 @@ abbrev pub CountsNode : Task → ℕ → ℕ → Block → ℕ → Type 0
 CountsNode t size address block result =
     (before : Before) (tree : Tree) →
     Shows t.place (lists_of_plan block.plan) address before.earlier →
-    tree ≡ node_of_plan t.place block.plan size address →
+    coded_node (given_of t) size address before tree ≡
+    node_of_plan t.place block.plan size address →
     AreSeen t.place [] t.near.now block.samples (address + squares size)
     (decoded_behind (given_of t) size address tree before.decoded) →
     result ≡ cost_of (given_of t) size address before tree
@@ -49,12 +51,37 @@ Costs t size address choice old result =
     (before : Before) → Stands t old address before →
     result ≡ cost_of (given_of t) size address before (choice before)
 
+-- a choice that is coded as it is: so far no unit has a vector
+abbrev pub IsCodedAsItIs : Task → ℕ → ℕ → (Before → Tree) → Type 0
+IsCodedAsItIs t size address choice =
+    (before : Before) →
+    coded_node (given_of t) size address before (choice before) ≡ choice before
+
+none_tried : (t : Task) → TriesNone (given_of t)
+none_tried t size address before entry = refl
+
+pub unit_as_chosen : (t : Task) (size address : ℕ) →
+    IsCodedAsItIs t size address (leaf_choice t size address)
+unit_as_chosen t size address before =
+    unit_as_it_is (given_of t) (none_tried t) size address before
+
+pub split_as_chosen : (t : Task) (size address : ℕ) → 0 < size →
+    IsCodedAsItIs t size address (split_choice t size address)
+split_as_chosen t zero address some before = absurd (omega (arith, some))
+split_as_chosen t (suc size) address some before =
+    let g : Given = given_of t in
+    let below : suc size - 1 ≡ size = omega arith in
+    subst (λ k. coded_node g (suc size) address before (split_of g k address before (best g k)) ≡
+    split_of g k address before (best g k)) (sym below)
+    (split_as_it_is g (none_tried t) size address before)
+
 pub costs_choice : (t : Task) (size address : ℕ) (choice : Before → Tree) (old new : Block)
-    (result : ℕ) → Decides t size address choice old new →
+    (result : ℕ) → IsCodedAsItIs t size address choice → Decides t size address choice old new →
     CountsNode t size address new result → Costs t size address choice old result
-costs_choice t size address choice old new result decides counts before here =
+costs_choice t size address choice old new result as_it_is decides counts before here =
     let there = stands_since t address before old new decides.kept here in
-    counts before (choice before) there.earlier (sym (decides.tree before here))
+    counts before (choice before) there.earlier
+    (as_it_is before ∙ sym (decides.tree before here))
     (decides.stands before here).decoded
 
 -- ---- the one that costs less

@@ -11,16 +11,18 @@ use Rattle.hv_syntax.specs.Squares.{Shows, NamesNode}
 use Rattle.hv_recon_model.specs.SeenSamples.{by_rows, comes_before}
 use Rattle.hv_recon.specs.Leaves.{AreSeen}
 use Rattle.hv_recon.specs.DecodedNodes.{node_of_plan}
-use Rattle.hv_mode_model.specs.ModeDecision.{Given, Before, behind, leaf, luma_mode}
+use Rattle.hv_mode_model.specs.ModeDecision.{Given, Before, nothing_found, behind, leaf, luma_mode}
 use Rattle.hv_mode.specs.declared.task.Task.{Task}
 
--- what is given for the block, as the definitions have it
+-- what is given for the block, as the definitions have it: so far nothing of other pictures
 abbrev pub given_of : Task → Given
 given_of t = record {
   effort = t.effort;
   qp = t.qp;
   input = t.input.now;
   surroundings = in_block t.kind t.references t.place (around_of t.near.now);
+  distances = [];
+  vectors = nothing_found;
 }
 
 -- Where a choice begins stands so in a block, at an address: what is decoded of the picture is seen

@@ -11,10 +11,10 @@ use Rattle.hv_tree_model.specs.Plans.{Plan, IsPlan, NamesItsUnits, tree_of, in_b
 use Rattle.hv_syntax.specs.Neighbours.{lists_of_plan, around_of}
 use Rattle.hv_recon_model.specs.Reconstruction.{Decoded}
 use Rattle.hv_recon.specs.Leaves.{AreSeen}
-use Rattle.hv_mode_model.specs.ModeDecision.{Given, Before, Task, decoded_behind, best}
+use Rattle.hv_mode_model.specs.ModeDecision.{Given, Before, Task, nothing_found, decoded_behind, best}
 use Rattle.hv_mode.specs.declared.picture_task.PictureTask.{PictureTask}
 
--- what is given for all blocks, as the definitions have it
+-- what is given for all blocks, as the definitions have it: so far nothing of other pictures
 abbrev pub task_of : PictureTask → Task
 task_of t = record {
   effort = t.effort;
@@ -22,6 +22,8 @@ task_of t = record {
   input = t.input.now;
   slice_type = t.kind;
   references = t.references;
+  distances = [];
+  vectors = nothing_found;
 }
 
 -- the plans of blocks
@@ -44,6 +46,8 @@ given_by t here near = record {
   qp = t.qp;
   input = t.input;
   surroundings = in_block t.slice_type t.references here (around_of near);
+  distances = t.distances;
+  vectors = t.vectors;
 }
 
 abbrev pub before_block : Decoded → Before

@@ -9,7 +9,7 @@ ghost use Rattle.hv_syntax.specs.Neighbours.{lists_of_plan};
 ghost use Rattle.hv_syntax.specs.Squares.{Shows, NamesNode};
 ghost use Rattle.hv_recon.specs.Leaves.{AreSeen};
 ghost use Rattle.hv_recon.specs.DecodedNodes.{node_of_plan, IsNodeOfBlock};
-ghost use Rattle.hv_mode_model.specs.ModeDecision.{Before, decoded_behind, cost_of};
+ghost use Rattle.hv_mode_model.specs.ModeDecision.{Before, decoded_behind, coded_node, cost_of};
 ghost use Rattle.hv_mode.specs.Nodes.{given_of};
 
 use crate::errors::node_errors;
@@ -44,9 +44,9 @@ fn node_bins(task: &Task<'_>, size: u8, address: u8, block: &Block) -> u64
     )
 }
 
-/// The cost of a node, by the plan and the samples of a block: that of the tree which the plan has
-/// there, behind whatever stands before the node, where what is decoded behind the tree is seen in
-/// the samples. The node lies in the picture, and its units name the squares of its tree.
+/// The cost of a node, by the plan and the samples of a block: that of the tree of which the plan has
+/// what is coded, behind whatever stands before the node, where what is decoded behind the tree is
+/// seen in the samples. The node lies in the picture, and its units name the squares of its tree.
 pub(crate) fn cost_node(task: &Task<'_>, size: u8, address: u8, block: &Block) -> u64
     requires node { IsNodeOfBlock size address }
     requires right { x0 task.now.place address + side size ≤ task.now.place.width }
@@ -54,7 +54,8 @@ pub(crate) fn cost_node(task: &Task<'_>, size: u8, address: u8, block: &Block) -
     requires names { NamesNode task.now.place (lists_of_plan block.now.plan) size address }
     ensures { (before : Before) (tree : Tree) →
         Shows task.now.place (lists_of_plan block.now.plan) address before.earlier →
-        tree ≡ node_of_plan task.now.place block.now.plan size address →
+        coded_node (given_of task.now) size address before tree ≡
+        node_of_plan task.now.place block.now.plan size address →
         AreSeen task.now.place [] task.now.near.now block.now.samples (address + squares size)
         (decoded_behind (given_of task.now) size address tree before.decoded) →
         result ≡ cost_of (given_of task.now) size address before tree }

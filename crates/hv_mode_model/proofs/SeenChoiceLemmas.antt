@@ -1,26 +1,33 @@
 -- What is chosen for a node is the same in surroundings that see the same from the column and the
--- row before the block on: bins and the candidates of a mode ask for nothing else, and nothing else
--- asks for what is seen. So what is chosen in a block is what is chosen in the picture.
-use Rattle.std.proofs.Common.{◌≡◌, ℕ, zero, suc, ◌+◌, ◌*◌, ◌≤◌, cond, List, [], ◌∷◌, length, refl, ap, ap₂, ◌∙◌, arith}
-use Rattle.std.specs.Prelude.{nat_eq}
+-- row before the block on: bins and the candidates of a mode or a vector ask for nothing else, and
+-- nothing else asks for what is seen. So what is chosen in a block is what is chosen in the picture.
+use Rattle.std.proofs.Common.{◌≡◌, ℕ, zero, suc, ◌+◌, ◌*◌, ◌≤◌, cond, List, [], ◌∷◌, ◌++◌, length, map, refl, ap, ap₂, ◌∙◌, arith}
+use Rattle.std.specs.Prelude.{nat_eq, Option, Some, None}
+use Rattle.hv_plan.specs.declared.prediction.Mv.{Mv}
 use Rattle.hv_tables.specs.declared.bins.SliceKind.{SliceKind}
 use Rattle.hv_types.specs.declared.picture.Picture.{Picture}
-use Rattle.hv_tree_model.specs.Trees.{Intra, Tree, Leaf, Split, Outside, greatest_size, no_units}
-use Rattle.hv_tree_model.specs.Sites.{Site, squares, is_outside, must_split}
-use Rattle.hv_tree_model.specs.EarlierUnits.{Look, look_picture}
+use Rattle.hv_tree_model.specs.Trees.{Prediction, Intra, Tree, Leaf, Split, Outside, greatest_size, no_units}
+use Rattle.hv_tree_model.specs.Sites.{Site, column_of, row_of, squares, is_outside, must_split}
+use Rattle.hv_tree_model.specs.EarlierUnits.{Square, after, Look, look_picture}
 use Rattle.hv_tree_model.specs.MostProbableModes.{planar, dc}
-use Rattle.hv_unit_model.specs.Bins.{luma_mode_bins}
+use Rattle.hv_unit_model.specs.Bins.{luma_mode_bins, mvd_bins, bins_of_node}
 use Rattle.hv_tree_model.specs.Plans.{look_around}
 use Rattle.hv_unit_model.specs.PlanLaws.{squares_before}
 use Rattle.hv_unit_model.proofs.AroundLemmas.{blocks_around}
 use Rattle.hv_unit_model.proofs.SeenBinsLemmas.{SeeTheSame, behind as squares_behind, same_candidates, same_bins}
 use Rattle.hv_filter_model.specs.Costs.{cost, first_least}
 use Rattle.hv_filter_model.proofs.CostLemmas.{first_least_same}
-use Rattle.hv_mode_model.specs.ModeDecision.{Given, Before, behind, decoded_behind, node_square, leaf, further_modes, absolute_differences, mode_bin_weight, score, luma_mode, squared_errors, cost_of, chosen, split_of, best}
+use Rattle.hv_mode_model.specs.ModeDecision.{FoundVectors, Given, Before, behind, decoded_behind, node_square, leaf, further_modes, absolute_differences, mode_bin_weight, score, luma_mode, may_name, predictor, inter_from, inter_by, predictions, squared_errors, coded_node, cost_of, least_of, chosen, split_of, best}
+use Rattle.hv_mode_model.specs.Differences.{candidate, difference, prediction_with_difference, tree_with_differences}
+use Rattle.hv_vector_model.specs.declared.motion.Neighbourhood.{Neighbourhood}
+use Rattle.hv_vector_model.specs.VectorPrediction.{Distances}
+use Rattle.hv_vector_model.specs.Vectors.{neighbourhood_of}
+use Rattle.hv_vector_model.proofs.VectorLemmas.{same_neighbourhood}
 use Rattle.hv_mode_model.specs.ModeLaws.{ChoicesInBlockAreThoseInPicture}
 
-module _ (effort qp : ℕ) (input : Picture) (slice_type : SliceKind) (references : ℕ) (here : Site)
-    (one other : Look) (same : SeeTheSame one other) where
+module _ (effort qp : ℕ) (input : Picture) (slice_type : SliceKind) (references : ℕ)
+    (distances : Distances) (vectors : FoundVectors) (here : Site) (one other : Look)
+    (same : SeeTheSame one other) where
   abbrev given : Look → Given
   given look = record {
     effort = effort;
@@ -32,6 +39,8 @@ module _ (effort qp : ℕ) (input : Picture) (slice_type : SliceKind) (reference
       site = here;
       look = look;
     };
+    distances = distances;
+    vectors = vectors;
   }
 
   abbrev g : Given
@@ -40,7 +49,64 @@ module _ (effort qp : ℕ) (input : Picture) (slice_type : SliceKind) (reference
   abbrev h : Given
   h = given other
 
-  -- ---- modes and costs
+  -- ---- the squares around a node, and the differences of vectors
+
+  around : (size address : ℕ) (earlier : List Square) → size ≤ greatest_size →
+      length earlier ≤ 64 →
+      neighbourhood_of one size address earlier ≡ neighbourhood_of other size address earlier
+  unfolding column_of row_of
+  around size address earlier small few =
+      same_neighbourhood one other same size address earlier small (omega arith) (omega arith) few
+
+  same_coded : (size address : ℕ) (earlier : List Square) (tree : Tree) → size ≤ greatest_size →
+      length earlier + squares size ≤ 64 →
+      tree_with_differences distances one size address earlier tree ≡
+      tree_with_differences distances other size address earlier tree
+  unfolding tree_with_differences
+  same_coded zero address earlier Outside small few = refl
+  same_coded (suc size) address earlier Outside small few = refl
+  same_coded zero address earlier (Leaf p units) small few =
+      ap (λ n. Leaf (prediction_with_difference distances n p) units)
+      (around zero address earlier small (omega (arith, few)))
+  same_coded (suc size) address earlier (Leaf p units) small few =
+      ap (λ n. Leaf (prediction_with_difference distances n p) units)
+      (around (suc size) address earlier small (omega (arith, few)))
+  same_coded zero address earlier (Split a b c d) small few = refl
+  same_coded (suc size) address earlier (Split a b c d) small few =
+      let n : ℕ = squares size in
+      let behind_a : List Square = after size earlier a in
+      let behind_b : List Square = after size behind_a b in
+      let behind_c : List Square = after size behind_b c in
+      let la = squares_behind size earlier a in
+      let lb = squares_behind size behind_a b in
+      let lc = squares_behind size behind_b c in
+      let below : size ≤ greatest_size = omega (arith, small) in
+      let first = same_coded size address earlier a below (omega (arith, few)) in
+      let second = same_coded size (address + n) behind_a b below (omega (arith, few, la)) in
+      let third =
+      same_coded size (address + 2 * n) behind_b c below (omega (arith, few, la, lb)) in
+      let fourth =
+      same_coded size (address + 3 * n) behind_c d below (omega (arith, few, la, lb, lc)) in
+      λ i. Split (first i) (second i) (third i) (fourth i)
+
+  -- ---- predictions
+
+  -- a unit by what is around it
+  abbrev unit_by : Neighbourhood → ℕ → Mv → Prediction
+  unit_by n entry mv =
+      let bins : ℕ → ℕ = λ flag. length (mvd_bins (difference mv (candidate distances n entry flag)))
+      in
+      let flag : ℕ = first_least bins 0 (1 ∷ []) in
+      inter_from (candidate distances n entry flag) mv entry flag
+
+  same_inter : (size address : ℕ) (before : Before) (entry : ℕ) (mv : Option Mv) →
+      size ≤ greatest_size → length before.earlier ≤ 64 →
+      inter_by g size address before entry mv ≡ inter_by h size address before entry mv
+  unfolding predictor
+  same_inter size address before entry None small few = refl
+  same_inter size address before entry (Some mv) small few =
+      ap (λ n. cond (may_name g before entry) (unit_by n entry mv ∷ []) [])
+      (around size address before.earlier small few)
 
   same_score : (size address : ℕ) (before : Before) → length before.earlier ≤ 64 → (mode : ℕ) →
       score g size address before mode ≡ score h size address before mode
@@ -57,40 +123,60 @@ module _ (effort qp : ℕ) (input : Picture) (slice_type : SliceKind) (reference
       first_least_same (score g size address before) (score h size address before) planar
       (further_modes effort) (same_score size address before few)
 
-  same_cost : (size address : ℕ) (before : Before) → length before.earlier + squares size ≤ 64 →
-      (tree : Tree) → cost_of g size address before tree ≡ cost_of h size address before tree
+  same_predictions : (size address : ℕ) (before : Before) → size ≤ greatest_size →
+      length before.earlier ≤ 64 →
+      predictions g size address before ≡ predictions h size address before
+  same_predictions size address before small few =
+      let first = same_inter size address before 0 _ small few in
+      let second = same_inter size address before 1 _ small few in
+      let mode = same_mode size address before few in
+      λ i. first i ++ (second i ++ Intra (mode i) ∷ [])
+
+  -- ---- costs
+
+  same_cost : (size address : ℕ) (before : Before) → size ≤ greatest_size →
+      length before.earlier + squares size ≤ 64 → (tree : Tree) →
+      cost_of g size address before tree ≡ cost_of h size address before tree
   unfolding cost_of
-  same_cost size address before few tree =
-      ap (λ bins. cost qp
-      (squared_errors input (decoded_behind g size address tree before.decoded)
-      (node_square g size address)) (length bins))
-      (same_bins slice_type references here one other same size address before.earlier tree few)
+  same_cost size address before small few tree =
+      let errors : ℕ =
+      squared_errors input (decoded_behind g size address tree before.decoded)
+      (node_square g size address) in
+      ap (λ bins. cost qp errors (length bins))
+      (ap (λ (t : Tree). bins_of_node g.surroundings size address before.earlier t)
+      (same_coded size address before.earlier tree small few) ∙
+      same_bins slice_type references here one other same size address before.earlier
+      (coded_node h size address before tree) few)
 
-  same_unit : (size address : ℕ) (before : Before) (mode : ℕ) →
-      leaf g size address before (Intra mode) ≡ leaf h size address before (Intra mode)
-  unfolding leaf
-  same_unit size address before mode = refl
-
-  same_leaf : (size address : ℕ) (before : Before) → length before.earlier ≤ 64 →
-      leaf g size address before (Intra (luma_mode g size address before)) ≡
-      leaf h size address before (Intra (luma_mode h size address before))
-  same_leaf size address before few =
-      same_unit size address before (luma_mode g size address before) ∙
-      ap (λ mode. leaf h size address before (Intra mode)) (same_mode size address before few)
+  same_least : (size address : ℕ) (before : Before) → size ≤ greatest_size →
+      length before.earlier + squares size ≤ 64 → (trees : List Tree) →
+      least_of g size address before trees ≡ least_of h size address before trees
+  same_least size address before small few [] = refl
+  same_least size address before small few (tree ∷ trees) =
+      first_least_same (cost_of g size address before) (cost_of h size address before) tree trees
+      (same_cost size address before small few)
 
   -- ---- nodes
 
+  same_units : (size address : ℕ) (before : Before) (ps : List Prediction) →
+      map (leaf g size address before) ps ≡ map (leaf h size address before) ps
+  unfolding leaf
+  same_units size address before ps = refl
+
   same_chosen : (size address : ℕ) (before : Before) (splits parts : List Tree) →
-      length before.earlier + squares size ≤ 64 → splits ≡ parts →
+      size ≤ greatest_size → length before.earlier + squares size ≤ 64 → splits ≡ parts →
       chosen g size address before splits ≡ chosen h size address before parts
   unfolding chosen
-  same_chosen size address before splits parts few alike =
-      let first : Tree = leaf g size address before (Intra (luma_mode g size address before)) in
-      let unit = same_leaf size address before (omega (arith, few)) in
+  same_chosen size address before splits parts small few alike =
+      let ps : List Prediction = predictions g size address before in
+      let trees : map (leaf g size address before) ps ++ splits ≡
+      map (leaf h size address before) (predictions h size address before) ++ parts =
+      ap (λ list. list ++ splits) (same_units size address before ps) ∙
+      ap₂ (λ list rest. map (leaf h size address before) list ++ rest)
+      (same_predictions size address before small (omega (arith, few))) alike in
       ap (λ tree. cond (nat_eq effort 0) (Leaf (Intra dc) (no_units size)) tree)
-      (first_least_same (cost_of g size address before) (cost_of h size address before) first
-      splits (same_cost size address before few) ∙
-      ap₂ (λ a list. first_least (cost_of h size address before) a list) unit alike)
+      (same_least size address before small few (map (leaf g size address before) ps ++ splits) ∙
+      ap (least_of h size address before) trees)
 
   same_split : (size address : ℕ) (before : Before) →
       length before.earlier + 4 * squares size ≤ 64 →
@@ -123,24 +209,27 @@ module _ (effort qp : ℕ) (input : Picture) (slice_type : SliceKind) (reference
       (behind h size (address + n) (second i) (after_a (first i))))) in
       λ i. Split (first i) (second i) (third i) (fourth i)
 
-  pub same_best : (size address : ℕ) (before : Before) →
+  pub same_best : (size address : ℕ) (before : Before) → size ≤ greatest_size →
       length before.earlier + squares size ≤ 64 →
       best g size address before ≡ best h size address before
   unfolding best
-  same_best zero address before few =
+  same_best zero address before small few =
       ap (λ tree. cond (is_outside here address) Outside tree)
-      (same_chosen 0 address before [] [] few refl)
-  same_best (suc size) address before few =
-      let parts = same_split size address before few (same_best size) in
+      (same_chosen 0 address before [] [] small few refl)
+  same_best (suc size) address before small few =
+      let below : size ≤ greatest_size = omega (arith, small) in
+      let parts =
+      same_split size address before few (λ address before. same_best size address before below) in
       ap₂ (λ tree unit. cond (is_outside here address) Outside
       (cond (must_split here (suc size) address) tree unit))
       parts
-      (same_chosen (suc size) address before _ _ few (ap (λ tree. tree ∷ []) parts))
+      (same_chosen (suc size) address before _ _ small few (ap (λ tree. tree ∷ []) parts))
 
 pub chosen_in_block : ChoicesInBlockAreThoseInPicture
 chosen_in_block task here plans around d before lies =
-    same_best task.effort task.qp task.input task.slice_type task.references here
+    same_best task.effort task.qp task.input task.slice_type task.references task.distances
+    task.vectors here
     (look_around here around) (look_picture here (squares_before here plans))
     (λ e column row short left right top low.
     blocks_around here plans around e column row before lies short left right top low)
-    greatest_size 0 (record { decoded = d; earlier = [] }) (omega arith)
+    greatest_size 0 (record { decoded = d; earlier = [] }) (omega arith) (omega arith)

@@ -17,6 +17,7 @@ use Rattle.hv_tree_model.specs.EarlierUnits.{look_picture}
 use Rattle.hv_tree_model.specs.MostProbableModes.{candModeList, remaining_of}
 use Rattle.hv_unit_model.specs.Bins.{luma_mode_bins, bins_of_node, predicted_bins, transform_tree_bins, transform_unit_bins}
 use Rattle.hv_recon_model.specs.Reconstruction.{nothing_decoded, square_at, decoded_block, decoded_tree}
+use Rattle.hv_mode_model.specs.Differences.{tree_with_differences}
 use Rattle.hv_mode_model.specs.ModeDecision.{best_trees, best, chosen, leaf, luma_mode, chosen_levels, chosen_units, score, cost_of, squared_errors}
 use Rattle.hv_mode_model.proofs.WorkedPictures.{picture, task, first_given, zeros, first_only, unit_8, leaf_8, tree_of_8, tree_of_16}
 
@@ -64,7 +65,7 @@ edge_16 :
     trees_of 1 22 16 16 (λ x y. cond (nat_lt x 8) 40 200) 128 128 ≡
     tree_of_16 (Split (leaf_8 0 (negsuc 87)) (leaf_8 0 (pos 160)) (leaf_8 1 (pos 0))
     (leaf_8 26 (pos 0))) ∷ []
-unfolding best_trees best chosen leaf sites is_outside column_of row_of crosses luma_mode score luma_mode_bins candModeList remaining_of truncated_unary_bins look_picture address_of chosen_levels levels tabulate predicted total_of sum_of decoded_tree decoded_block residual cost_of squared_errors bins_of_node predicted_bins transform_tree_bins transform_unit_bins residual_bins level_at last_significant prefix_of last_bins block_position scan_order bins_from levels_below downwards sig_coeff_bins level_bins greater1_bins remaining_bins exp_golomb_bins sub_blocks_bins positions
+unfolding best_trees best chosen leaf sites is_outside column_of row_of crosses luma_mode score luma_mode_bins candModeList remaining_of truncated_unary_bins look_picture address_of chosen_levels levels tabulate predicted total_of sum_of decoded_tree decoded_block residual cost_of tree_with_differences squared_errors bins_of_node predicted_bins transform_tree_bins transform_unit_bins residual_bins level_at last_significant prefix_of last_bins block_position scan_order bins_from levels_below downwards sig_coeff_bins level_bins greater1_bins remaining_bins exp_golomb_bins sub_blocks_bins positions
 edge_16 = refl
 
 -- At the least quantiser a bin weighs nothing, so that a unit and four units cost the same: the
@@ -73,7 +74,7 @@ equal_costs_16 :
     trees_of 1 0 16 16 (λ x y. 128) 128 128 ≡
     tree_of_16 (Leaf (Intra 0)
     (record { luma = zeros 256; cb = zeros 64; cr = zeros 64 } ∷ [])) ∷ []
-unfolding best_trees best chosen leaf sites is_outside column_of row_of crosses luma_mode score luma_mode_bins candModeList remaining_of truncated_unary_bins look_picture address_of chosen_levels levels tabulate predicted total_of sum_of decoded_tree decoded_block residual cost_of squared_errors bins_of_node predicted_bins transform_tree_bins transform_unit_bins residual_bins level_at last_significant prefix_of last_bins block_position scan_order bins_from levels_below downwards sig_coeff_bins level_bins greater1_bins remaining_bins exp_golomb_bins sub_blocks_bins positions
+unfolding best_trees best chosen leaf sites is_outside column_of row_of crosses luma_mode score luma_mode_bins candModeList remaining_of truncated_unary_bins look_picture address_of chosen_levels levels tabulate predicted total_of sum_of decoded_tree decoded_block residual cost_of tree_with_differences squared_errors bins_of_node predicted_bins transform_tree_bins transform_unit_bins residual_bins level_at last_significant prefix_of last_bins block_position scan_order bins_from levels_below downwards sig_coeff_bins level_bins greater1_bins remaining_bins exp_golomb_bins sub_blocks_bins positions
 equal_costs_16 = refl
 
 -- All modes are tried: two parts of a slanted edge take modes that effort 1 doesn't try.
@@ -105,7 +106,7 @@ slanted_16 :
     pos 9 ∷ pos 2 ∷ pos 0 ∷ pos 0 ∷ pos 0 ∷ negsuc 3 ∷ negsuc 0 ∷ pos 4 ∷ pos 1 ∷ pos 0 ∷ pos 2 ∷
     pos 0 ∷ negsuc 4 ∷ pos 0 ∷ pos 4 ∷ pos 0 ∷ negsuc 0 ∷ pos 4 ∷ pos 0 ∷ negsuc 4 ∷ pos 0 ∷
     pos 2 ∷ pos 0 ∷ pos 0 ∷ pos 0 ∷ []))) ∷ []
-unfolding best_trees best chosen leaf sites is_outside column_of row_of crosses luma_mode score luma_mode_bins candModeList remaining_of truncated_unary_bins look_picture address_of chosen_levels levels tabulate predicted total_of sum_of decoded_tree decoded_block residual cost_of squared_errors bins_of_node predicted_bins transform_tree_bins transform_unit_bins residual_bins level_at last_significant prefix_of last_bins block_position scan_order bins_from levels_below downwards sig_coeff_bins level_bins greater1_bins remaining_bins exp_golomb_bins sub_blocks_bins positions
+unfolding best_trees best chosen leaf sites is_outside column_of row_of crosses luma_mode score luma_mode_bins candModeList remaining_of truncated_unary_bins look_picture address_of chosen_levels levels tabulate predicted total_of sum_of decoded_tree decoded_block residual cost_of tree_with_differences squared_errors bins_of_node predicted_bins transform_tree_bins transform_unit_bins residual_bins level_at last_significant prefix_of last_bins block_position scan_order bins_from levels_below downwards sig_coeff_bins level_bins greater1_bins remaining_bins exp_golomb_bins sub_blocks_bins positions
 slanted_16 = refl
 
 -- A row of two blocks: each unit follows the one at its left, also across the blocks.

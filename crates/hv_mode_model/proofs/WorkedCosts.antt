@@ -16,6 +16,7 @@ use Rattle.hv_tree_model.specs.EarlierUnits.{Coded, look_picture}
 use Rattle.hv_tree_model.specs.MostProbableModes.{candModeList, remaining_of}
 use Rattle.hv_unit_model.specs.Bins.{luma_mode_bins, bins_of_node, predicted_bins, transform_tree_bins, transform_unit_bins}
 use Rattle.hv_recon_model.specs.Reconstruction.{nothing, decoded_block, decoded_tree}
+use Rattle.hv_mode_model.specs.Differences.{tree_with_differences}
 use Rattle.hv_mode_model.specs.ModeDecision.{Given, Before, mode_bin_weight, score, leaf, chosen_levels, cost_of, squared_errors}
 use Rattle.hv_mode_model.proofs.WorkedPictures.{picture, first_given, nothing_before, leaf_8}
 
@@ -64,7 +65,7 @@ abbrev edge : Given
 edge = first_given 1 22 (picture 16 16 (λ x y. cond (nat_lt x 8) 40 200) 128 128)
 
 cost_of_unit : cost_of edge 1 0 nothing_before (leaf edge 1 0 nothing_before (Intra 0)) ≡ 21360
-unfolding cost_of squared_errors is_outside column_of row_of crosses look_picture address_of luma_mode_bins candModeList remaining_of truncated_unary_bins bins_of_node predicted_bins transform_tree_bins transform_unit_bins residual_bins level_at last_significant prefix_of last_bins block_position scan_order bins_from levels_below downwards sig_coeff_bins level_bins greater1_bins remaining_bins exp_golomb_bins sub_blocks_bins positions tabulate predicted total_of sum_of decoded_tree decoded_block residual leaf chosen_levels levels
+unfolding cost_of tree_with_differences squared_errors is_outside column_of row_of crosses look_picture address_of luma_mode_bins candModeList remaining_of truncated_unary_bins bins_of_node predicted_bins transform_tree_bins transform_unit_bins residual_bins level_at last_significant prefix_of last_bins block_position scan_order bins_from levels_below downwards sig_coeff_bins level_bins greater1_bins remaining_bins exp_golomb_bins sub_blocks_bins positions tabulate predicted total_of sum_of decoded_tree decoded_block residual leaf chosen_levels levels
 cost_of_unit = refl
 
 -- four units have 74 bins, of which the first is split_cu_flag, and no differences
@@ -72,7 +73,7 @@ cost_of_split :
     cost_of edge 1 0 nothing_before
     (Split (leaf_8 0 (negsuc 87)) (leaf_8 0 (pos 160)) (leaf_8 1 (pos 0)) (leaf_8 26 (pos 0))) ≡
     6512
-unfolding cost_of squared_errors is_outside column_of row_of crosses look_picture address_of luma_mode_bins candModeList remaining_of truncated_unary_bins bins_of_node predicted_bins transform_tree_bins transform_unit_bins residual_bins level_at last_significant prefix_of last_bins block_position scan_order bins_from levels_below downwards sig_coeff_bins level_bins greater1_bins remaining_bins exp_golomb_bins sub_blocks_bins positions tabulate predicted total_of sum_of decoded_tree decoded_block residual
+unfolding cost_of tree_with_differences squared_errors is_outside column_of row_of crosses look_picture address_of luma_mode_bins candModeList remaining_of truncated_unary_bins bins_of_node predicted_bins transform_tree_bins transform_unit_bins residual_bins level_at last_significant prefix_of last_bins block_position scan_order bins_from levels_below downwards sig_coeff_bins level_bins greater1_bins remaining_bins exp_golomb_bins sub_blocks_bins positions tabulate predicted total_of sum_of decoded_tree decoded_block residual
 cost_of_split = refl
 
 -- Each component counts: without levels all samples are 128, and 8 bins weigh 1,408 each. Squares
@@ -80,5 +81,5 @@ cost_of_split = refl
 cost_without_levels :
     cost_of (first_given 1 34 (picture 8 8 (λ x y. 20 * x + 10 * y) 150 90)) 0 0 nothing_before
     (leaf_8 1 (pos 0)) ≡ 3734528
-unfolding cost_of squared_errors is_outside column_of row_of crosses look_picture address_of luma_mode_bins candModeList truncated_unary_bins bins_of_node predicted_bins transform_tree_bins transform_unit_bins tabulate predicted total_of sum_of decoded_tree decoded_block residual
+unfolding cost_of tree_with_differences squared_errors is_outside column_of row_of crosses look_picture address_of luma_mode_bins candModeList truncated_unary_bins bins_of_node predicted_bins transform_tree_bins transform_unit_bins tabulate predicted total_of sum_of decoded_tree decoded_block residual
 cost_without_levels = refl

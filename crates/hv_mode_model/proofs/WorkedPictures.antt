@@ -6,7 +6,7 @@ use Rattle.hv_types.specs.Samples.{plane_of}
 use Rattle.hv_tree_model.specs.Trees.{Intra, TransformUnit, Tree, Leaf, Split, Outside}
 use Rattle.hv_tree_model.specs.Sites.{site}
 use Rattle.hv_recon_model.specs.Reconstruction.{nothing_decoded}
-use Rattle.hv_mode_model.specs.ModeDecision.{Given, Before, Task, given_at}
+use Rattle.hv_mode_model.specs.ModeDecision.{Given, Before, Task, nothing_found, given_at}
 
 -- luma of these sides by a formula over column and row, Cb and Cr of one value
 abbrev pub picture : ℕ → ℕ → (ℕ → ℕ → ℕ) → ℕ → ℕ → Picture
@@ -19,7 +19,15 @@ picture width height luma cb cr = record {
 -- an I picture, at this effort and quantiser
 abbrev pub task : ℕ → ℕ → Picture → Task
 task effort qp input =
-    record { effort = effort; qp = qp; input = input; slice_type = I; references = 0 }
+    record {
+      effort = effort;
+      qp = qp;
+      input = input;
+      slice_type = I;
+      references = 0;
+      distances = [];
+      vectors = nothing_found;
+    }
 
 -- its first block
 abbrev pub first_given : ℕ → ℕ → Picture → Given

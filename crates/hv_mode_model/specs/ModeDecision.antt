@@ -1,27 +1,40 @@
 -- What the encoder chooses for a coding tree block: which nodes are split, how each coding unit is
 -- predicted, and its levels. H.265 leaves it free. A node is chosen behind what was chosen before,
--- and the first of least cost is taken. So far intra prediction alone: inter prediction adds to the
--- predictions that are tried, and changes nothing else.
-use Rattle.std.specs.Prelude.{ℕ, zero, suc, ◌+◌, ◌*◌, ◌/◌, ◌^◌, Bool, true, false, cond, nat_eq, nat_lt, List, [], ◌∷◌, ◌++◌, length, map, sum, Option, Some, None, ℤ, pos, ◌-ℤ◌}
+-- and the first of least cost is taken. The trees here are those with vectors: in each unit that is
+-- predicted from another picture its vector stands in the place of the coded difference.
+use Rattle.std.specs.Prelude.{ℕ, zero, suc, ◌+◌, ◌*◌, ◌/◌, ◌^◌, Bool, true, false, cond, nat_eq, nat_lt, nat_le, ◌&&◌, List, [], ◌∷◌, ◌++◌, length, map, sum, Option, Some, None, ℤ, pos, ◌-ℤ◌}
 use Rattle.std.specs.Int.{abs_diff}
 use Rattle.std.specs.Int.RustNames.{unsigned_abs}
 use Rattle.hv_lemmas.specs.Lists.{tabulate}
 use Rattle.hv_tables.specs.declared.bins.SliceKind.{SliceKind}
+use Rattle.hv_tables.specs.declared.bins.SliceKind.TheVariants.{I, P}
+use Rattle.hv_plan.specs.declared.prediction.Mv.{Mv}
 use Rattle.hv_types.specs.declared.picture.Picture.{Picture}
 use Rattle.hv_types.specs.Samples.{Plane, sample_at}
 use Rattle.hv_tables.specs.Quantisers.{chroma_qp}
 use Rattle.hv_sample_model.specs.Blocks.{square, total_of}
 use Rattle.hv_sample_model.specs.Quantisation.{levels}
-use Rattle.hv_tree_model.specs.Trees.{Prediction, Intra, TransformUnit, Tree, Leaf, Split, Outside, greatest_size, log2TrafoSize, no_units}
+use Rattle.hv_tree_model.specs.Trees.{Prediction, Intra, Inter, TransformUnit, Tree, Leaf, Split, Outside, side, greatest_size, log2TrafoSize, no_units}
 use Rattle.hv_tree_model.specs.Sites.{Site, squares, x0, y0, is_outside, must_split}
 use Rattle.hv_tree_model.specs.EarlierUnits.{Square as UnitSquare, after, Surroundings, in_picture}
 use Rattle.hv_tree_model.specs.MostProbableModes.{planar, dc, candidates}
 use Rattle.hv_unit_model.specs.BlockSyntax.{is_intra}
-use Rattle.hv_unit_model.specs.Bins.{luma_mode_bins, bins_of_node}
+use Rattle.hv_unit_model.specs.Bins.{luma_mode_bins, mvd_bins, bins_of_node}
 use Rattle.hv_recon_model.specs.Reconstruction.{Component, Decoded, Square, square_at, luma_planes, cb_planes, cr_planes, chroma_of, quarter, predicted_block, decoded_unit, decoded_tree, sample_of}
 use Rattle.hv_filter_model.specs.Costs.{cost, first_least}
+use Rattle.hv_vector_model.specs.VectorPrediction.{Distances}
+use Rattle.hv_vector_model.specs.Vectors.{neighbourhood_of, moved_by}
+use Rattle.hv_mode_model.specs.Differences.{candidate, difference, tree_with_differences, trees_with_differences}
 
 -- ---- what is given, and what was chosen before
+
+-- What motion search found: the vector for an entry of list 0, and the node that begins in a column
+-- of a row and has a side, these in luma samples. None where nothing is searched.
+abbrev pub FoundVectors : Type 0
+FoundVectors = ℕ → ℕ → ℕ → ℕ → Option Mv
+
+abbrev pub nothing_found : FoundVectors
+nothing_found entry x y side = None
 
 -- what is given for a coding tree block
 pub record Given : Type 0 where
@@ -31,14 +44,17 @@ pub record Given : Type 0 where
   pub qp : ℕ
   -- the padded picture that is encoded
   pub input : Picture
-  -- the slice, the block's place, and the units of the blocks before
+  -- the slice, the block's place, and the units of the blocks before, which have vectors
   pub surroundings : Surroundings
+  -- to each entry of list 0
+  pub distances : Distances
+  pub vectors : FoundVectors
 
 -- where a choice begins
 pub record Before : Type 0 where
   -- the picture before the in-loop filters, as far as it is decoded, and its reference pictures
   pub decoded : Decoded
-  -- the squares of the block that were chosen so far
+  -- the squares of the block that were chosen so far, which have vectors
   pub earlier : List UnitSquare
 
 -- the value that is there, else another
@@ -157,6 +173,60 @@ unfoldable pub luma_mode : Given → ℕ → ℕ → Before → ℕ
 luma_mode g size address before =
     first_least (score g size address before) planar (further_modes g.effort)
 
+-- ---- units that are predicted from another picture
+
+abbrev pub has_list_0 : SliceKind → Bool
+has_list_0 I = false
+has_list_0 P = true
+
+-- A unit may name an entry: in a P slice of at most two, where there is a picture.
+abbrev pub may_name : Given → Before → ℕ → Bool
+may_name g before entry =
+    has_list_0 g.surroundings.slice_type && nat_le g.surroundings.references 2 &&
+    nat_lt entry g.surroundings.references && nat_lt entry (length before.decoded.references)
+
+-- one of the two candidates for the vector of a unit (8.5.3.2.6)
+abbrev pub candidate_at : Given → ℕ → ℕ → Before → ℕ → ℕ → Mv
+candidate_at g size address before entry flag =
+    candidate g.distances (neighbourhood_of g.surroundings.look size address before.earlier) entry
+    flag
+
+-- how many bins the difference of a vector from it takes
+abbrev pub difference_bins : Given → ℕ → ℕ → Before → ℕ → Mv → ℕ → ℕ
+difference_bins g size address before entry mv flag =
+    length (mvd_bins (difference mv (candidate_at g size address before entry flag)))
+
+-- mvp_l0_flag: the first of fewest bins
+unfoldable pub predictor : Given → ℕ → ℕ → Before → ℕ → Mv → ℕ
+predictor g size address before entry mv =
+    first_least (difference_bins g size address before entry mv) 0 (1 ∷ [])
+
+-- The unit moves by what a decoder makes of candidate and difference: that is the vector again,
+-- where it has 16 bits.
+abbrev pub inter_from : Mv → Mv → ℕ → ℕ → Prediction
+inter_from mvpL0 mv entry flag =
+    Inter (record {
+      ref_idx_l0 = entry;
+      mvp_l0_flag = flag;
+      MvdL0 = moved_by mvpL0 (difference mv mvpL0);
+    })
+
+abbrev pub inter_unit : Given → ℕ → ℕ → Before → ℕ → Mv → Prediction
+inter_unit g size address before entry mv =
+    let flag = predictor g size address before entry mv in
+    inter_from (candidate_at g size address before entry flag) mv entry flag
+
+-- with the vector that was found, if any
+abbrev pub inter_by : Given → ℕ → ℕ → Before → ℕ → Option Mv → List Prediction
+inter_by g size address before entry None = []
+inter_by g size address before entry (Some mv) =
+    cond (may_name g before entry) (inter_unit g size address before entry mv ∷ []) []
+
+abbrev pub inter_at : Given → ℕ → ℕ → Before → ℕ → List Prediction
+inter_at g size address before entry =
+    inter_by g size address before entry
+    (g.vectors entry (x0 g.surroundings.site address) (y0 g.surroundings.site address) (side size))
+
 -- ---- the cost of a tree at a node
 
 -- the squared difference of two samples
@@ -177,10 +247,17 @@ squared_errors input d s =
     squared_differences input.cb d.cb (chroma_of s) +
     squared_differences input.cr d.cr (chroma_of s)
 
+-- what is coded of it: differences in the place of its vectors
+abbrev pub coded_node : Given → ℕ → ℕ → Before → Tree → Tree
+coded_node g size address before tree =
+    tree_with_differences g.distances g.surroundings.look size address before.earlier tree
+
 -- how many bins its coding quadtree takes, split_cu_flag with it
 abbrev pub node_bins : Given → ℕ → ℕ → Before → Tree → ℕ
 node_bins g size address before tree =
-    length (bins_of_node g.surroundings size address before.earlier tree)
+    length
+    (bins_of_node g.surroundings size address before.earlier
+    (coded_node g size address before tree))
 
 unfoldable pub cost_of : Given → ℕ → ℕ → Before → Tree → ℕ
 cost_of g size address before tree =
@@ -191,10 +268,12 @@ cost_of g size address before tree =
 
 -- ---- the choice at a node
 
--- The predictions that are tried for a coding unit, in this order. Those from other pictures come
--- before intra prediction, where there are such.
+-- the predictions that are tried for a coding unit, in this order: from entry 0 of list 0, from
+-- entry 1, and from its own picture
 abbrev pub predictions : Given → ℕ → ℕ → Before → List Prediction
-predictions g size address before = Intra (luma_mode g size address before) ∷ []
+predictions g size address before =
+    inter_at g size address before 0 ++
+    (inter_at g size address before 1 ++ Intra (luma_mode g size address before) ∷ [])
 
 -- of trees, the first of least cost
 abbrev pub least_of : Given → ℕ → ℕ → Before → List Tree → Tree
@@ -242,21 +321,26 @@ pub record Task : Type 0 where
   pub slice_type : SliceKind
   -- num_ref_idx_l0_active_minus1 + 1
   pub references : ℕ
+  -- to each entry of list 0
+  pub distances : Distances
+  pub vectors : FoundVectors
 
--- for a block behind these squares of all blocks before
+-- for a block behind these squares of all blocks before, which have vectors
 abbrev pub given_at : Task → Site → List UnitSquare → Given
 given_at task site done = record {
   effort = task.effort;
   qp = task.qp;
   input = task.input;
   surroundings = in_picture task.slice_type task.references site done;
+  distances = task.distances;
+  vectors = task.vectors;
 }
 
 abbrev pub best_tree : Task → Site → List UnitSquare → Decoded → Tree
 best_tree task site done d =
     best (given_at task site done) greatest_size 0 (record { decoded = d; earlier = [] })
 
--- the trees of blocks in raster order, each behind the earlier ones
+-- the trees of blocks in raster order, each behind the earlier ones, with vectors
 unfoldable pub best_trees : Task → List Site → List UnitSquare → Decoded → List Tree
 best_trees task [] done d = []
 best_trees task (site ∷ sites) done d =
@@ -272,3 +356,8 @@ best_decoded task (site ∷ sites) done d =
     let tree = best_tree task site done d in
     best_decoded task sites (after greatest_size done tree)
     (decoded_behind (given_at task site done) greatest_size 0 tree d)
+
+-- what is coded of the blocks
+abbrev pub coded_trees : Task → List Site → List UnitSquare → Decoded → List Tree
+coded_trees task sites done d =
+    trees_with_differences task.distances sites done (best_trees task sites done d)

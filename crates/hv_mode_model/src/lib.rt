@@ -7,5 +7,7 @@ mod mode_laws;
 
 pub use mode_laws::{
     choices_in_block_are_those_in_picture, chosen_nodes_are_decoded, chosen_nodes_may_be_coded,
-    chosen_trees_are_decoded, chosen_trees_may_be_coded, every_chosen_sample_is_decoded,
+    chosen_trees_are_decoded, chosen_trees_may_be_coded, coded_nodes_have_their_vectors,
+    coded_trees_have_their_vectors, every_chosen_sample_is_decoded, i_slices_are_intra_alone,
+    nothing_found_is_intra_alone, vectors_are_those_found,
 };

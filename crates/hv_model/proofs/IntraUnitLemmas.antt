@@ -22,7 +22,7 @@ use Rattle.hv_deblock_model.specs.EdgeStrength.{Squares}
 use Rattle.hv_deblock_model.specs.TreeSquares.{squares_of_trees}
 use Rattle.hv_deblock_model.specs.InLoopFilters.{filtered_picture as filtered_with}
 use Rattle.hv_mode_model.specs.ModeDecision.{Task}
-use Rattle.hv_mode_model.proofs.ValidChoiceLemmas.{valid_trees, valid_trees_in}
+use Rattle.hv_mode_model.proofs.ValidChoiceLemmas.{valid_trees, valid_intra_trees}
 use Rattle.hv_mode_model.proofs.ChosenDecodedLemmas.{decoded_all}
 use Rattle.hv_slice_model.specs.Slices.{picture_sites}
 use Rattle.hv_model.specs.Reconstruction.{distances_of, moved_trees, no_vectors, vectors_of, filtered_picture}
@@ -96,8 +96,8 @@ module _ (cfg : Settings) (header : SliceHeader) (input : Picture) where
   -- no unit is predicted from another picture
   are_intra : AreTrees I 0 (picture_sites cfg) (chosen_trees cfg header input)
   are_intra =
-      valid_trees_in I 0 (picture_task cfg header input) (picture_sites cfg) []
-      (nothing_decoded [])
+      valid_intra_trees I 0 (picture_task cfg header input) (picture_sites cfg) []
+      (nothing_decoded []) refl
 
   same_trees : map (λ unit. unit.tree) (coded_units cfg header input) ≡
       chosen_trees cfg header input

@@ -25,6 +25,7 @@ use Rattle.hv_tree_model.specs.EarlierUnits.{look_picture}
 use Rattle.hv_tree_model.specs.MostProbableModes.{candModeList, remaining_of}
 use Rattle.hv_unit_model.specs.Bins.{sao_bins, luma_mode_bins, bins_of_node, predicted_bins, transform_tree_bins, quarters_bins, transform_unit_bins}
 use Rattle.hv_recon_model.specs.Reconstruction.{decoded_block, decoded_tree}
+use Rattle.hv_mode_model.specs.Differences.{tree_with_differences}
 use Rattle.hv_mode_model.specs.ModeDecision.{best_trees, best_decoded, best, chosen, leaf, luma_mode, chosen_levels, score, cost_of, squared_errors}
 use Rattle.hv_model.specs.IntraPictures.{encode_of, recon_of}
 
@@ -66,7 +67,7 @@ sets =
 one_written : encode_of (small 1 37) (slope 0 40 80 ∷ []) ≡ sets ++ (
     0x00 ∷ 0x00 ∷ 0x00 ∷ 0x01 ∷ 0x28 ∷ 0x01 ∷ 0xAF ∷ 0x0B ∷ 0x40 ∷ 0xF6 ∷ 0xAA ∷ 0x3C ∷ 0xFC ∷
     0x62 ∷ 0xBB ∷ 0x50 ∷ 0xA1 ∷ 0xC0 ∷ [])
-unfolding first_bytes lps_width next_variable first_variables shift_of log2_of sites sao_bins bins_of_node predicted_bins luma_mode_bins candModeList remaining_of transform_tree_bins quarters_bins transform_unit_bins truncated_unary_bins exp_golomb_bins remaining_bins no_units no_levels look_picture column_of row_of address_of crosses is_outside residual_bins level_at last_significant prefix_of last_bins block_position block_number scan_order bins_from levels_below downwards sig_coeff_bins level_bins greater1_bins sub_blocks_bins positions tabulate decoded_block decoded_tree predicted residual sum_of total_of levels best_trees best_decoded best chosen leaf luma_mode chosen_levels score cost_of squared_errors
+unfolding first_bytes lps_width next_variable first_variables shift_of log2_of sites sao_bins bins_of_node predicted_bins luma_mode_bins candModeList remaining_of transform_tree_bins quarters_bins transform_unit_bins truncated_unary_bins exp_golomb_bins remaining_bins no_units no_levels look_picture column_of row_of address_of crosses is_outside residual_bins level_at last_significant prefix_of last_bins block_position block_number scan_order bins_from levels_below downwards sig_coeff_bins level_bins greater1_bins sub_blocks_bins positions tabulate decoded_block decoded_tree predicted residual sum_of total_of levels best_trees best_decoded best chosen leaf luma_mode chosen_levels score cost_of tree_with_differences squared_errors
 one_written = refl
 
 -- two pictures, at effort 2
@@ -78,7 +79,7 @@ two_written : encode_of (small 2 30) two_slopes ≡ sets ++ (
     0xC7 ∷ 0x7D ∷ 0x51 ∷ 0xD3 ∷ 0x79 ∷ 0x30 ∷
     0x00 ∷ 0x00 ∷ 0x00 ∷ 0x01 ∷ 0x28 ∷ 0x01 ∷ 0xAF ∷ 0x11 ∷ 0xEA ∷ 0xED ∷ 0x17 ∷ 0x88 ∷ 0xEA ∷
     0x17 ∷ 0x7D ∷ 0x0F ∷ 0xD3 ∷ 0x65 ∷ 0xC0 ∷ [])
-unfolding first_bytes lps_width next_variable first_variables shift_of log2_of sites sao_bins bins_of_node predicted_bins luma_mode_bins candModeList remaining_of transform_tree_bins quarters_bins transform_unit_bins truncated_unary_bins exp_golomb_bins remaining_bins no_units no_levels look_picture column_of row_of address_of crosses is_outside residual_bins level_at last_significant prefix_of last_bins block_position block_number scan_order bins_from levels_below downwards sig_coeff_bins level_bins greater1_bins sub_blocks_bins positions tabulate decoded_block decoded_tree predicted residual sum_of total_of levels best_trees best_decoded best chosen leaf luma_mode chosen_levels score cost_of squared_errors
+unfolding first_bytes lps_width next_variable first_variables shift_of log2_of sites sao_bins bins_of_node predicted_bins luma_mode_bins candModeList remaining_of transform_tree_bins quarters_bins transform_unit_bins truncated_unary_bins exp_golomb_bins remaining_bins no_units no_levels look_picture column_of row_of address_of crosses is_outside residual_bins level_at last_significant prefix_of last_bins block_position block_number scan_order bins_from levels_below downwards sig_coeff_bins level_bins greater1_bins sub_blocks_bins positions tabulate decoded_block decoded_tree predicted residual sum_of total_of levels best_trees best_decoded best chosen leaf luma_mode chosen_levels score cost_of tree_with_differences squared_errors
 two_written = refl
 
 -- four rows of one value each
@@ -114,5 +115,5 @@ two_shown : recon_of (small 2 30) two_slopes ≡
       cb = plane_by_rows 4 4 (four_rows 46 49 54 57);
       cr = plane_by_rows 4 4 (four_rows 86 89 95 98);
     } ∷ []
-unfolding first_bytes lps_width next_variable first_variables shift_of log2_of sites sao_bins bins_of_node predicted_bins luma_mode_bins candModeList remaining_of transform_tree_bins quarters_bins transform_unit_bins truncated_unary_bins exp_golomb_bins remaining_bins no_units no_levels look_picture column_of row_of address_of crosses is_outside residual_bins level_at last_significant prefix_of last_bins block_position block_number scan_order bins_from levels_below downwards sig_coeff_bins level_bins greater1_bins sub_blocks_bins positions tabulate decoded_block decoded_tree predicted residual sum_of total_of levels best_trees best_decoded best chosen leaf luma_mode chosen_levels score cost_of squared_errors
+unfolding first_bytes lps_width next_variable first_variables shift_of log2_of sites sao_bins bins_of_node predicted_bins luma_mode_bins candModeList remaining_of transform_tree_bins quarters_bins transform_unit_bins truncated_unary_bins exp_golomb_bins remaining_bins no_units no_levels look_picture column_of row_of address_of crosses is_outside residual_bins level_at last_significant prefix_of last_bins block_position block_number scan_order bins_from levels_below downwards sig_coeff_bins level_bins greater1_bins sub_blocks_bins positions tabulate decoded_block decoded_tree predicted residual sum_of total_of levels best_trees best_decoded best chosen leaf luma_mode chosen_levels score cost_of tree_with_differences squared_errors
 two_shown = refl

@@ -22,7 +22,7 @@ use Rattle.hv_deblock_model.specs.EdgeStrength.{Squares}
 use Rattle.hv_deblock_model.specs.Deblocking.{deblocked_picture}
 use Rattle.hv_deblock_model.specs.TreeSquares.{squares_of_trees}
 use Rattle.hv_deblock_model.specs.InLoopFilters.{made_offsets, shown_picture}
-use Rattle.hv_mode_model.specs.ModeDecision.{Task, best_trees, best_decoded}
+use Rattle.hv_mode_model.specs.ModeDecision.{Task, nothing_found, best_trees, best_decoded}
 use Rattle.hv_slice_model.specs.Slices.{picture_sites, header_in, unit_of_slice}
 use Rattle.hv_model.specs.Reconstruction.{no_vectors}
 use Rattle.hv_model.specs.Encoding.{EncodedGroup, groups_of}
@@ -36,6 +36,8 @@ picture_task cfg header input = record {
   input = input;
   slice_type = header.slice_type;
   references = used_count header.references;
+  distances = [];
+  vectors = nothing_found;
 }
 
 -- the trees of its blocks, in raster order

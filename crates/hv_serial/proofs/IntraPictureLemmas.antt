@@ -31,7 +31,7 @@ use Rattle.hv_filter.specs.JoinedPicture.{joined_picture}
 use Rattle.hv_filter.specs.FilteredPicture.{input_picture, picture_qp, working_picture as working_of_blocks, picture_sao as sao_of_blocks, shown_of_blocks}
 use Rattle.hv_filter.proofs.FilterLemmas.{joined_has_sides}
 use Rattle.hv_mode_model.specs.ModeDecision.{Task}
-use Rattle.hv_mode_model.proofs.ValidChoiceLemmas.{valid_trees_in}
+use Rattle.hv_mode_model.proofs.ValidChoiceLemmas.{valid_intra_trees}
 use Rattle.hv_slice_model.specs.Slices.{picture_sites, unit_of_slice}
 use Rattle.hv_slice_model.specs.PlannedUnits.{planned_units}
 use Rattle.hv_packet.specs.BlockPlans.{plan_of, plans_of, units_in}
@@ -125,7 +125,7 @@ module _ (group : GroupInput) (number : ℕ) (blocks : List Block)
     all_intra : AreTrees I 0 places (planned_trees places (plans_of blocks))
     all_intra =
         subst (AreTrees I 0 places) (sym planned)
-        (valid_trees_in I 0 (task_in group number) places [] (nothing_decoded []))
+        (valid_intra_trees I 0 (task_in group number) places [] (nothing_decoded []) refl)
 
     quantiser : picture_qp group number ≡ header.qp
     quantiser = quantiser_in group.config (length group.pictures) number

@@ -1,6 +1,6 @@
 -- The five squares around a node move as in the picture (8.5.3.2.7): what is seen of the blocks
 -- around is what is seen in the picture, also of units that know their vectors.
-use Rattle.std.proofs.Common.{◌≡◌, ℕ, ◌+◌, ◌-◌, ◌^◌, ◌<◌, ◌≤◌, Bool, List, map, refl, sym, ap, ◌∙◌, arith}
+use Rattle.std.proofs.Common.{◌≡◌, ℕ, ◌+◌, ◌-◌, ◌^◌, ◌<◌, ◌≤◌, Bool, List, length, map, refl, sym, ap, ◌∙◌, arith}
 use Rattle.std.specs.Prelude.{nat_le, slice_get, Option, Some, None, option_map}
 use Rattle.std.proofs.lemmas.Bool.{leb-true}
 use Rattle.std.proofs.lemmas.List.{length-map}
@@ -8,13 +8,14 @@ use Rattle.std.proofs.lemmas.Option.{slice_get-map}
 use Rattle.hv_lemmas.proofs.ComputedLemmas.{holds_below}
 use Rattle.hv_plan.specs.declared.prediction.Unit.{Unit}
 use Rattle.hv_tree_model.specs.Sites.{Site, column_of, row_of}
-use Rattle.hv_tree_model.specs.EarlierUnits.{look_picture}
+use Rattle.hv_tree_model.specs.EarlierUnits.{Square, Look, look_picture}
 use Rattle.hv_tree_model.specs.Plans.{Plan, UnitEdges, UnitsAround, look_around}
 use Rattle.hv_unit_model.specs.PlanLaws.{squares_before, unit_of_plan, AreSeen, LieAround}
 use Rattle.hv_unit_model.proofs.AroundLemmas.{blocks_around}
+use Rattle.hv_unit_model.proofs.SeenBinsLemmas.{SeeTheSame}
 use Rattle.hv_unit_model.proofs.GeometryLemmas.{place_of_address}
 use Rattle.hv_inter_model.specs.UnitVectors.{unit_with_vector}
-use Rattle.hv_vector_model.specs.Vectors.{plan_with_vectors, edges_with_vectors, around_with_vectors}
+use Rattle.hv_vector_model.specs.Vectors.{neighbourhood_of, plan_with_vectors, edges_with_vectors, around_with_vectors}
 use Rattle.hv_vector_model.specs.VectorLaws.{NeighbourhoodsInBlockAreThoseInPicture}
 
 -- ---- edges of plans that know their vectors
@@ -69,30 +70,38 @@ large_sides : (size : ℕ) → size ≤ 3 → 1 ≤ 2 ^ size
 large_sides size h =
     let t = holds_below 4 (λ n. nat_le 1 (2 ^ n)) refl size (omega (arith, h)) in leb-true _ _ t
 
+-- in surroundings that see the same from the column and the row before a block on
+pub same_neighbourhood : (one other : Look) → SeeTheSame one other → (size address : ℕ)
+    (earlier : List Square) → size ≤ 3 → column_of address < 8 → row_of address < 8 →
+    length earlier ≤ 64 →
+    neighbourhood_of one size address earlier ≡ neighbourhood_of other size address earlier
+same_neighbourhood one other same size address earlier few column_below row_below short =
+    let most = small_sides size few in
+    let least = large_sides size few in
+    let x : ℕ = 8 + column_of address in
+    let y : ℕ = 8 + row_of address in
+    let at : (column row : ℕ) → 7 ≤ column → column < 24 → 7 ≤ row → row < 24 →
+    one earlier column row ≡ other earlier column row =
+    λ column row. same earlier column row short in
+    rw (
+      at (x - 1) (y + 2 ^ size) (omega arith) (omega (arith, column_below)) (omega arith)
+          (omega (arith, row_below, most)),
+      at (x - 1) (y + 2 ^ size - 1) (omega arith) (omega (arith, column_below))
+          (omega (arith, least)) (omega (arith, row_below, most)),
+      at (x + 2 ^ size) (y - 1) (omega arith) (omega (arith, column_below, most)) (omega arith)
+          (omega (arith, row_below)),
+      at (x + 2 ^ size - 1) (y - 1) (omega (arith, least)) (omega (arith, column_below, most))
+          (omega arith) (omega (arith, row_below)),
+      at (x - 1) (y - 1) (omega arith) (omega (arith, column_below)) (omega arith)
+          (omega (arith, row_below)),
+    ) refl
+
 pub neighbourhoods_in_picture : NeighbourhoodsInBlockAreThoseInPicture
 neighbourhoods_in_picture here plans around size address earlier before lies few inside short =
     let moves : List Plan = map plan_with_vectors plans in
     let near : UnitsAround = around_with_vectors around in
     let place = place_of_address address inside in
-    let most = small_sides size few in
-    let least = large_sides size few in
-    let x : ℕ = 8 + column_of address in
-    let y : ℕ = 8 + row_of address in
-    let same : (column row : ℕ) → 7 ≤ column → column < 24 → 7 ≤ row → row < 24 →
-    look_around here near earlier column row ≡
-    look_picture here (squares_before here moves) earlier column row =
-    λ column row.
-    blocks_around here moves near earlier column row before (around_with here plans around lies)
-    short in
-    rw (
-      same (x - 1) (y + 2 ^ size) (omega arith) (omega (arith, place.1)) (omega arith)
-          (omega (arith, place.2, most)),
-      same (x - 1) (y + 2 ^ size - 1) (omega arith) (omega (arith, place.1))
-          (omega (arith, least)) (omega (arith, place.2, most)),
-      same (x + 2 ^ size) (y - 1) (omega arith) (omega (arith, place.1, most)) (omega arith)
-          (omega (arith, place.2)),
-      same (x + 2 ^ size - 1) (y - 1) (omega (arith, least)) (omega (arith, place.1, most))
-          (omega arith) (omega (arith, place.2)),
-      same (x - 1) (y - 1) (omega arith) (omega (arith, place.1)) (omega arith)
-          (omega (arith, place.2)),
-    ) refl
+    same_neighbourhood (look_around here near) (look_picture here (squares_before here moves))
+    (λ e column row short.
+    blocks_around here moves near e column row before (around_with here plans around lies) short)
+    size address earlier few place.1 place.2 short

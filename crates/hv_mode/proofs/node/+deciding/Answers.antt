@@ -6,7 +6,7 @@ use Rattle.hv_mode.specs.SplitNodes.{split_choice}
 use Rattle.hv_mode.proofs.BestLemmas.{begins_inside, fits_across, fits_down}
 use Rattle.hv_mode.proofs.DecidedLemmas.{outside_decides, forced_decides, blank_decides, least_decides, tried_decides}
 use Rattle.hv_mode.proofs.SplitLemmas.{split_decides, parts_of}
-use Rattle.hv_mode.proofs.TriedLemmas.{costs_choice, split_wins, unit_wins}
+use Rattle.hv_mode.proofs.TriedLemmas.{unit_as_chosen, split_as_chosen, costs_choice, split_wins, unit_wins}
 use Rattle.hv_mode.proofs.FrameLemmas.{restored, decides_since}
 use Rattle.hv_mode.proofs.NodeFrameLemmas.{decides_kept}
 use Rattle.hv_mode.proofs.node.+deciding.Goals as goal
@@ -103,13 +103,14 @@ decide_tried-returns-then-split_cost-unit_cost t c =
     let address : ℕ = c.args.address in
     let old : Block = c.args.out.now in
     let of_unit = costs_choice task size address (leaf_choice task size address) old
-    c.decide_leaf.new.out c.cost_node-unit_cost.result c.decide_leaf.ensures
-    c.cost_node-unit_cost.ensures in
+    c.decide_leaf.new.out c.cost_node-unit_cost.result (unit_as_chosen task size address)
+    c.decide_leaf.ensures c.cost_node-unit_cost.ensures in
     let split = decides_since task size address (split_choice task size address) old
     c.decide_leaf.new.out c.decide_split.new.out c.decide_leaf.ensures.kept
     c.decide_split.ensures in
     let of_split = costs_choice task size address (split_choice task size address) old
-    c.decide_split.new.out c.cost_node-split_cost.result split c.cost_node-split_cost.ensures in
+    c.decide_split.new.out c.cost_node-split_cost.result
+    (split_as_chosen task size address c.requires.parts) split c.cost_node-split_cost.ensures in
     split_wins task size address old c.decide_split.new.out c.cost_node-unit_cost.result
     c.cost_node-split_cost.result of_unit of_split c.if-split_cost-unit_cost.true split
 
@@ -120,13 +121,14 @@ decide_tried-returns t c =
     let address : ℕ = c.args.address in
     let old : Block = c.args.out.now in
     let of_unit = costs_choice task size address (leaf_choice task size address) old
-    c.decide_leaf.new.out c.cost_node-unit_cost.result c.decide_leaf.ensures
-    c.cost_node-unit_cost.ensures in
+    c.decide_leaf.new.out c.cost_node-unit_cost.result (unit_as_chosen task size address)
+    c.decide_leaf.ensures c.cost_node-unit_cost.ensures in
     let split = decides_since task size address (split_choice task size address) old
     c.decide_leaf.new.out c.decide_split.new.out c.decide_leaf.ensures.kept
     c.decide_split.ensures in
     let of_split = costs_choice task size address (split_choice task size address) old
-    c.decide_split.new.out c.cost_node-split_cost.result split c.cost_node-split_cost.ensures in
+    c.decide_split.new.out c.cost_node-split_cost.result
+    (split_as_chosen task size address c.requires.parts) split c.cost_node-split_cost.ensures in
     let back = restored size address c.decide_leaf.new.out _ c.copy_node.new.to
     c.decide_split.new.out c.copy_node-2.new.to c.copy_node.ensures c.decide_split.ensures.kept
     c.copy_node-2.ensures in

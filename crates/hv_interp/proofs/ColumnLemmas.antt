@@ -93,17 +93,17 @@ part_woven samples part n stride y x inside even odd =
 
 -- ---- a block of them
 
--- a block has so many sixteens
-pub all_sixteens : (n : ℕ) → 16 * (n / 16) ≡ n → 16 * (n * n / 16) ≡ n * n
-all_sixteens n e =
+-- so many times 32 places are a block
+pub whole_block : (n : ℕ) → 16 * (n / 16) ≡ n → 32 * (n * n / 32) ≡ n * n
+whole_block n e =
     let m : ℕ = n / 16 in
-    let square : 16 * (m * n) ≡ n * n = omega arith ∙ ap (λ k. k * n) e in
+    let square : 256 * (m * m) ≡ n * n = omega arith ∙ ap₂ (λ k l. k * l) e e in
     omega (arith, square)
 
 -- the samples that the taps meet are there
-pub woven_inside : (n T g p : ℕ) (woven : List ℕ) → 2 * (T / 2) ≡ T → g < n * n / 16 → (n + T - 2) * (2 * n) ≤ length woven → p < T / 2 →
-    32 * g + p * (4 * n) + 32 ≤ length woven
-woven_inside n T g p woven even block room more =
+pub woven_inside : (n T at p : ℕ) (woven : List ℕ) → 2 * (T / 2) ≡ T → at + 32 ≤ 2 * (n * n) → (n + T - 2) * (2 * n) ≤ length woven → p < T / 2 →
+    at + p * (4 * n) + 32 ≤ length woven
+woven_inside n T at p woven even block room more =
     let rows : n + T - 2 ≡ n + (T - 2) = omega (arith, more) in
     let all : (n + T - 2) * (2 * n) ≡ n * (2 * n) + (T - 2) * (2 * n) = ap (λ m. m * (2 * n)) rows ∙ add-mul n (T - 2) (2 * n) in
     let skipped : 2 * p * (2 * n) ≤ (T - 2) * (2 * n) = mul-le-mul_right (2 * n) (omega (arith, more, even)) in

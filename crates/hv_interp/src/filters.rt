@@ -176,7 +176,8 @@ pub(crate) fn filter_rows<const T: usize>(
 
 /// Filters a block of `size` columns and rows down its columns.
 ///
-/// The usual sizes have functions with room of their own, so that no call clears more than its share.
+/// The usual sizes have functions with room of their own, so that no call clears more than its
+/// share.
 #[inline(never)]
 pub(crate) fn filter_columns<const T: usize>(
     taps: &[i8; T],

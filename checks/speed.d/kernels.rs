@@ -6,6 +6,7 @@
 mod cabac;
 mod edges;
 mod hand;
+mod hand_inter;
 mod leaves;
 mod levels;
 mod offsets;
@@ -936,6 +937,28 @@ fn inter(
     }
 }
 
+// The same by hand, of 64x64 luma samples where a component of the vector has a fraction.
+fn inter_by_hand(
+    reference: &[u8],
+    stride: usize,
+    place: (usize, usize),
+    mv: (i16, i16),
+    out: &mut [u8],
+) {
+    let x = (place.0 as isize + isize::from(mv.0 >> 2)) as usize - 3;
+    let y = (place.1 as isize + isize::from(mv.1 >> 2)) as usize - 3;
+    let window = &reference[y * stride + x..];
+    let (across, down) = (
+        &LUMA_TAPS[(mv.0 & 3) as usize],
+        &LUMA_TAPS[(mv.1 & 3) as usize],
+    );
+    match (mv.0 & 3, mv.1 & 3) {
+        (_, 0) => hand_inter::rows::<64>(across, &window[3 * stride..], stride, out),
+        (0, _) => hand_inter::columns::<64>(down, &window[3..], stride, out),
+        _ => hand_inter::both::<64, 71>(across, down, window, stride, out),
+    }
+}
+
 // A block: its name, whether it is of luma, its size and its vector.
 const INTER_KERNELS: [(&str, bool, usize, (i16, i16)); 7] = [
     ("inter_copy_64", true, 64, (16, 16)),
@@ -947,7 +970,13 @@ const INTER_KERNELS: [(&str, bool, usize, (i16, i16)); 7] = [
     ("inter_chroma_32", false, 32, (17, 18)),
 ];
 
-fn checksum_of_inter(luma: bool, size: usize, mv: (i16, i16), rounds: usize) -> u64 {
+fn checksum_of_inter(
+    luma: bool,
+    size: usize,
+    mv: (i16, i16),
+    by_hand: bool,
+    rounds: usize,
+) -> u64 {
     let mut state = 5;
     let mut reference = vec![0u8; SAMPLES];
     for sample in &mut reference {
@@ -962,7 +991,11 @@ fn checksum_of_inter(luma: bool, size: usize, mv: (i16, i16), rounds: usize) -> 
         for place in 0..CALLS {
             block.fill(0);
             let at = (64 + place, 16 + place % 32);
-            inter(&reference, stride, luma, at, size, mv, block);
+            if by_hand {
+                inter_by_hand(&reference, stride, at, mv, block);
+            } else {
+                inter(&reference, stride, luma, at, size, mv, block);
+            }
             sum = sum.wrapping_add(u64::from(black_box(&*block)[place]));
         }
     }
@@ -1096,7 +1129,8 @@ fn main() -> ExitCode {
     }
     for (known, luma, size, mv) in INTER_KERNELS {
         if name == "all" || name == known {
-            println!("{known} {}", checksum_of_inter(luma, size, mv, rounds));
+            let sum = checksum_of_inter(luma, size, mv, by_hand, rounds);
+            println!("{known} {sum}");
         }
     }
     for (known, transform, log2, kept) in TRANSFORM_KERNELS {

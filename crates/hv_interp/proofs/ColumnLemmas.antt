@@ -1,6 +1,5 @@
 -- Rows that are woven with the next, and the sums down their columns.
-use Rattle.std.proofs.Common.{◌≡◌, ℕ, ◌+◌, ◌-◌, ◌*◌, ◌/◌, ◌%◌, ◌<◌, ◌≤◌, List, [], ◌∷◌, ◌++◌, ℤ, pos, take, take_all, refl, subst, sym, ap, ap₂, ◌∙◌, ⊎_elim, arith, length, slice_index_or}
-use Rattle.std.proofs.lemmas.Bool.{cases_lt}
+use Rattle.std.proofs.Common.{◌≡◌, ℕ, ◌+◌, ◌-◌, ◌*◌, ◌/◌, ◌%◌, ◌<◌, ◌≤◌, List, [], ◌∷◌, ◌++◌, ℤ, pos, take, take_all, refl, sym, ap, ap₂, ◌∙◌, arith, length, slice_index_or}
 use Rattle.std.proofs.lemmas.List.{get_or_append_left, get_or-append_right}
 use Rattle.std.proofs.lemmas.Nat.{div-add-mod', div-mul-add, mod-mul-add, mod_below}
 use Rattle.std.proofs.lemmas.Simd.{put_chunk_whole}
@@ -9,7 +8,7 @@ use lib.Lanes.{put_chunk}
 use lib.ListN.{get_or}
 use Rattle.hv_lemmas.proofs.ComputedLemmas.{each_of_eight}
 use Rattle.hv_interp.specs.Filters.{HasFirst, HoldsTaps, paired_place, place_of, placed_sum, strided_sum, woven_place}
-use Rattle.hv_interp.proofs.PairLemmas.{by_turns, part_at}
+use Rattle.hv_interp.proofs.PairLemmas.{by_halves, by_turns, part_at}
 use Rattle.hv_interp.proofs.PlaceLemmas.{place_inside, row_part}
 use Rattle.hv_interp.proofs.SumLemmas.{weighted_same}
 
@@ -24,24 +23,15 @@ weave_of xs ys =
     g 0 ∷ g 16 ∷ g 1 ∷ g 17 ∷ g 2 ∷ g 18 ∷ g 3 ∷ g 19 ∷ g 4 ∷ g 20 ∷ g 5 ∷ g 21 ∷ g 6 ∷ g 22 ∷ g 7 ∷ g 23 ∷
     g 8 ∷ g 24 ∷ g 9 ∷ g 25 ∷ g 10 ∷ g 26 ∷ g 11 ∷ g 27 ∷ g 12 ∷ g 28 ∷ g 13 ∷ g 29 ∷ g 14 ∷ g 30 ∷ g 15 ∷ g 31 ∷ []
 
-each_of_sixteen : (P : ℕ → Type 0) → ((i : ℕ) → i < 8 → P i) → ((i : ℕ) → i < 8 → P (8 + i)) → (i : ℕ) → i < 16 → P i
-each_of_sixteen P low high i below =
-    ⊎_elim
-    (λ less. low i less)
-    (λ more.
-    let e : 8 + (i - 8) ≡ i = omega (arith, more) in
-    subst P e (high (i - 8) (omega (arith, below))))
-    (cases_lt i 8)
-
 evens : (xs ys : List ℕ) (i : ℕ) → i < 16 → get_or (weave_of xs ys) (2 * i) 0 ≡ sample_in xs ys i
 evens xs ys =
-    each_of_sixteen (λ i. get_or (weave_of xs ys) (2 * i) 0 ≡ sample_in xs ys i)
+    by_halves (λ i. get_or (weave_of xs ys) (2 * i) 0 ≡ sample_in xs ys i)
     (each_of_eight (λ i. get_or (weave_of xs ys) (2 * i) 0 ≡ sample_in xs ys i) refl refl refl refl refl refl refl refl)
     (each_of_eight (λ i. get_or (weave_of xs ys) (2 * (8 + i)) 0 ≡ sample_in xs ys (8 + i)) refl refl refl refl refl refl refl refl)
 
 odds : (xs ys : List ℕ) (i : ℕ) → i < 16 → get_or (weave_of xs ys) (2 * i + 1) 0 ≡ sample_in xs ys (16 + i)
 odds xs ys =
-    each_of_sixteen (λ i. get_or (weave_of xs ys) (2 * i + 1) 0 ≡ sample_in xs ys (16 + i))
+    by_halves (λ i. get_or (weave_of xs ys) (2 * i + 1) 0 ≡ sample_in xs ys (16 + i))
     (each_of_eight (λ i. get_or (weave_of xs ys) (2 * i + 1) 0 ≡ sample_in xs ys (16 + i)) refl refl refl refl refl refl refl refl)
     (each_of_eight (λ i. get_or (weave_of xs ys) (2 * (8 + i) + 1) 0 ≡ sample_in xs ys (16 + (8 + i))) refl refl refl refl refl refl refl refl)
 
@@ -93,17 +83,17 @@ part_woven samples part n stride y x inside even odd =
 
 -- ---- a block of them
 
--- a block has so many sixteens
-pub all_sixteens : (n : ℕ) → 16 * (n / 16) ≡ n → 16 * (n * n / 16) ≡ n * n
-all_sixteens n e =
+-- so many times 32 places are a block
+pub whole_block : (n : ℕ) → 16 * (n / 16) ≡ n → 32 * (n * n / 32) ≡ n * n
+whole_block n e =
     let m : ℕ = n / 16 in
-    let square : 16 * (m * n) ≡ n * n = omega arith ∙ ap (λ k. k * n) e in
+    let square : 256 * (m * m) ≡ n * n = omega arith ∙ ap₂ (λ k l. k * l) e e in
     omega (arith, square)
 
 -- the samples that the taps meet are there
-pub woven_inside : (n T g p : ℕ) (woven : List ℕ) → 2 * (T / 2) ≡ T → g < n * n / 16 → (n + T - 2) * (2 * n) ≤ length woven → p < T / 2 →
-    32 * g + p * (4 * n) + 32 ≤ length woven
-woven_inside n T g p woven even block room more =
+pub woven_inside : (n T at p : ℕ) (woven : List ℕ) → 2 * (T / 2) ≡ T → at + 32 ≤ 2 * (n * n) → (n + T - 2) * (2 * n) ≤ length woven → p < T / 2 →
+    at + p * (4 * n) + 32 ≤ length woven
+woven_inside n T at p woven even block room more =
     let rows : n + T - 2 ≡ n + (T - 2) = omega (arith, more) in
     let all : (n + T - 2) * (2 * n) ≡ n * (2 * n) + (T - 2) * (2 * n) = ap (λ m. m * (2 * n)) rows ∙ add-mul n (T - 2) (2 * n) in
     let skipped : 2 * p * (2 * n) ≤ (T - 2) * (2 * n) = mul-le-mul_right (2 * n) (omega (arith, more, even)) in

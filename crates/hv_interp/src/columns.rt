@@ -80,9 +80,12 @@ fn filter_woven<const T: usize>(
         (λ k. weighted_sample (placed_sum taps.now woven.now (paired_place (2 * k) (4 * size))))
         out.new }
 {
-    for g in 0..size * size / 16 {
-        let sums = sixteen_paired_sums(taps, spread, woven, 32 * g, 4 * size);
-        put_16_samples(sums, &mut out[16 * g..16 * g + 16]);
+    let step = 4 * size;
+    for g in 0..size * size / 32 {
+        let first = sixteen_paired_sums(taps, spread, woven, 64 * g, step);
+        let second = sixteen_paired_sums(taps, spread, woven, 64 * g + 32, step);
+        put_16_samples(first, &mut out[32 * g..32 * g + 16]);
+        put_16_samples(second, &mut out[32 * g + 16..32 * g + 32]);
     }
 }
 

@@ -176,7 +176,8 @@ pub(crate) fn filter_rows<const T: usize>(
 
 /// Filters a block of `size` columns and rows down its columns.
 ///
-/// The usual sizes have functions with room of their own, so that no call clears more than its share.
+/// The usual sizes have functions with room of their own, so that no call clears more than its
+/// share.
 #[inline(never)]
 pub(crate) fn filter_columns<const T: usize>(
     taps: &[i8; T],
@@ -319,15 +320,15 @@ fn widened<const T: usize>(taps: &[i8; T]) -> [i16; T]
     wide
 }
 
-/// Filters sums of rows down their columns, the first eights of a block.
+/// Filters sums of rows down their columns, the first sixteens of a block.
 ///
 /// It isn't inlined, so that the compiler doesn't know the taps, and multiplies pairs.
 #[inline(never)]
-fn filter_eights<const T: usize>(
+fn filter_sixteens<const T: usize>(
     taps: &[i16; T],
     sums: &[i16],
     size: usize,
-    eights: usize,
+    sixteens: usize,
     out: &mut [u8],
 )
     requires some { 0 < T }
@@ -336,15 +337,17 @@ fn filter_eights<const T: usize>(
     requires light { weight_of taps.now ≤ 112 }
     requires numbers { (k : ℕ) → FitsSigned w16 (slice_index_or sums.now k (pos 0)) }
     requires size { size ≤ 64 }
-    requires eights { 8 * eights ≤ size * size }
+    requires sixteens { 16 * sixteens ≤ size * size }
     requires inside { (size + T - 1) * size ≤ length sums.now }
     requires room { length out.old ≡ size * size }
-    ensures { HasFirst 0 (8 * eights)
+    ensures { HasFirst 0 (16 * sixteens)
         (λ k. weighted_sample (int_shr (strided_total taps.now sums.now k size) 6)) out.new }
 {
-    for g in 0..eights {
-        let totals = eight_totals(taps, sums, 8 * g, size);
-        put_totals(totals, &mut out[8 * g..8 * g + 8]);
+    for g in 0..sixteens {
+        let first = eight_totals(taps, sums, 16 * g, size);
+        let second = eight_totals(taps, sums, 16 * g + 8, size);
+        put_totals(first, &mut out[16 * g..16 * g + 8]);
+        put_totals(second, &mut out[16 * g + 8..16 * g + 16]);
     }
 }
 
@@ -361,9 +364,9 @@ pub(crate) fn filter_sums<const T: usize>(taps: &[i8; T], sums: &[i16], size: us
     ensures { HasFirst 0 (size * size)
         (λ k. weighted_sample (int_shr (strided_total taps.now sums.now k size) 6)) out.new }
 {
-    let eights = out.len() / 8;
-    filter_eights(&widened(taps), sums, size, eights, out);
-    for k in 8 * eights..out.len() {
+    let sixteens = out.len() / 16;
+    filter_sixteens(&widened(taps), sums, size, sixteens, out);
+    for k in 16 * sixteens..out.len() {
         out[k] = rounded(sum_of_numbers(taps, sums, k, size) >> 6);
     }
 }

@@ -1,5 +1,5 @@
 //! Sums of taps times samples in pairs, in lanes of 16 bits.
-ghost use Rattle.std.specs.Prelude.{ℕ, ◌≡◌, ◌+◌, ◌-◌, ◌*◌, ◌/◌, ◌^◌, ◌<◌, ◌≤◌, length, ◌+ℤ◌};
+ghost use Rattle.std.specs.Prelude.{ℕ, ◌≡◌, ◌+◌, ◌*◌, ◌/◌, ◌^◌, ◌<◌, ◌≤◌, length, ◌+ℤ◌};
 ghost use Rattle.std.specs.Int.RustNames.{FitsSigned, unsigned_abs};
 ghost use mir.Syntax.{w16};
 ghost use Rattle.hv_interp.specs.Filters.{paired_place, placed_sum, strided_sum, weight_of};

@@ -5,4 +5,4 @@ use Rattle.hv_interp.proofs.columns.filter_woven.Given as goal
 
 abbrev pub invariant-loop-g : goal.invariant-loop-g
 invariant-loop-g g l =
-    HasFirst 0 (16 * l.g) (λ k. weighted_sample (placed_sum l.taps l.woven (paired_place (2 * k) (4 * l.size)))) l.out
+    HasFirst 0 (32 * l.g) (λ k. weighted_sample (placed_sum l.taps l.woven (paired_place (2 * k) (4 * l.size)))) l.out

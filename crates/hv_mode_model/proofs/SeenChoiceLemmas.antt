@@ -22,7 +22,7 @@ use Rattle.hv_mode_model.specs.Differences.{candidate, difference, prediction_wi
 use Rattle.hv_vector_model.specs.declared.motion.Neighbourhood.{Neighbourhood}
 use Rattle.hv_vector_model.specs.VectorPrediction.{Distances}
 use Rattle.hv_vector_model.specs.Vectors.{neighbourhood_of}
-use Rattle.hv_vector_model.proofs.VectorLemmas.{same_neighbourhood}
+use Rattle.hv_mode_model.proofs.NeighbourLemmas.{same_neighbourhood}
 use Rattle.hv_mode_model.specs.ModeLaws.{ChoicesInBlockAreThoseInPicture}
 
 module _ (effort qp : ℕ) (input : Picture) (slice_type : SliceKind) (references : ℕ)

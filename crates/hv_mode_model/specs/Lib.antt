@@ -1,3 +1,4 @@
 pub mod Differences
 pub mod ModeDecision
 pub mod ModeLaws
+pub mod NeighbourLaws

@@ -4,6 +4,7 @@
 #![tactic(auto)]
 
 mod mode_laws;
+mod neighbour_laws;
 
 pub use mode_laws::{
     choices_in_block_are_those_in_picture, chosen_nodes_are_decoded, chosen_nodes_may_be_coded,
@@ -11,3 +12,4 @@ pub use mode_laws::{
     coded_trees_have_their_vectors, every_chosen_sample_is_decoded, i_slices_are_intra_alone,
     nothing_found_is_intra_alone, vectors_are_those_found,
 };
+pub use neighbour_laws::neighbourhoods_in_block_are_those_in_picture;

@@ -1,2 +1,1 @@
-pub mod VectorLemmas
 mod WorkedVectors

@@ -1,3 +1,2 @@
 pub mod VectorPrediction
 pub mod Vectors
-pub mod VectorLaws

@@ -3,7 +3,5 @@
 #![tactic(auto)]
 
 mod motion;
-mod vector_laws;
 
 pub use motion::{Moving, Neighbourhood};
-pub use vector_laws::neighbourhoods_in_block_are_those_in_picture;

@@ -16,7 +16,7 @@ use Rattle.hv_unit_model.proofs.SeenBinsLemmas.{SeeTheSame}
 use Rattle.hv_unit_model.proofs.GeometryLemmas.{place_of_address}
 use Rattle.hv_inter_model.specs.UnitVectors.{unit_with_vector}
 use Rattle.hv_vector_model.specs.Vectors.{neighbourhood_of, plan_with_vectors, edges_with_vectors, around_with_vectors}
-use Rattle.hv_vector_model.specs.VectorLaws.{NeighbourhoodsInBlockAreThoseInPicture}
+use Rattle.hv_mode_model.specs.NeighbourLaws.{NeighbourhoodsInBlockAreThoseInPicture}
 
 -- ---- edges of plans that know their vectors
 

@@ -1,6 +1,6 @@
 //! What is seen in a coding tree block is what is seen in the picture.
 
-ghost use Rattle.hv_vector_model.specs.VectorLaws.{NeighbourhoodsInBlockAreThoseInPicture};
+ghost use Rattle.hv_mode_model.specs.NeighbourLaws.{NeighbourhoodsInBlockAreThoseInPicture};
 
 /// The five squares around a node move as the plans of the four blocks around say, and the node's
 /// own: where each square of the blocks before names its unit, and the vector of it, that is how

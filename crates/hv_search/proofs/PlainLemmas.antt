@@ -1,5 +1,5 @@
 -- The search without any shortcut: vectors around another one, by rows.
-use Rattle.std.proofs.Common.{◌≡◌, ℕ, ◌+◌, ◌*◌, ◌-◌, ◌<◌, ◌/◌, ◌%◌, min, refl, subst, ap, ◌∙◌, sym, ℤ, pos, ◌+ℤ◌, ◌-ℤ◌, w64, to_z, of_z, ◌≤◌, arith}
+use Rattle.std.proofs.Common.{◌≡◌, ℕ, ◌+◌, ◌*◌, ◌-◌, ◌<◌, ◌/◌, min, refl, subst, ap, ◌∙◌, sym, ℤ, pos, ◌+ℤ◌, ◌-ℤ◌, w64, to_z, of_z, ◌≤◌, arith}
 use Rattle.std.specs.Prelude.{Some, None}
 use mathlib.Core.Logic.{◌⊎◌, inl, inr}
 use Rattle.std.specs.Int.RustNames.{unsigned_abs}

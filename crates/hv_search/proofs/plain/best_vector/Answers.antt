@@ -1,7 +1,7 @@
-use Rattle.std.proofs.Common.{◌≡◌, ℕ, ◌+◌, ◌*◌, ◌/◌, ◌∙◌, ap, ap₂, sym, subst, refl, arith, pos}
+use Rattle.std.proofs.Common.{◌≡◌, ℕ, ◌∙◌, ap, sym, subst, refl, arith, pos}
 use Rattle.hv_plan.specs.declared.prediction.Mv.{Mv}
 use Rattle.hv_types.specs.Samples.{Plane}
-use Rattle.hv_search_model.specs.MotionSearch.{vector, times, least_around, Score, Scores, coarse_score, full_score, fractional_score, scores_of, coarse_vector, full_vector, whole_vector, half_vector}
+use Rattle.hv_search_model.specs.MotionSearch.{vector, times, least_around, Score, coarse_score, full_score, fractional_score, scores_of, whole_vector}
 use Rattle.hv_search_model.specs.MotionLaws.{IsWithin}
 use Rattle.hv_search_model.proofs.ReachLemmas.{least_around_within}
 use Rattle.hv_search.specs.Windows.{plane_of_grid}

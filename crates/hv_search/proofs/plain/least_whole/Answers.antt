@@ -1,6 +1,5 @@
-use Rattle.std.proofs.Common.{◌≡◌, ℕ, ◌+◌, ◌*◌, ◌/◌, ◌%◌, ◌∙◌, ap, sym, subst, refl, arith, pos, ◌+ℤ◌, ◌-ℤ◌}
+use Rattle.std.proofs.Common.{◌≡◌, ℕ, ◌+◌, ◌*◌, ◌/◌, ◌%◌, ◌∙◌, ap, sym, subst, refl, arith, pos, ◌-ℤ◌}
 use Rattle.hv_search_model.specs.MotionSearch.{moved, Score}
-use Rattle.hv_search.specs.declared.scored.Scored.{Scored}
 use Rattle.hv_search.specs.Windows.{plane_of_grid}
 use Rattle.hv_search.specs.Fraction.{IsBestOf}
 use Rattle.hv_search.specs.Plain.{area_score, whole_place}

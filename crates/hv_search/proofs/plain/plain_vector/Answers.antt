@@ -1,4 +1,4 @@
-use Rattle.std.proofs.Common.{◌+◌, arith}
+use Rattle.std.proofs.Common.{arith}
 use Rattle.hv_search.proofs.PlainLemmas.{none_at_0, none_across, none_below, some_inside}
 use Rattle.hv_search.proofs.plain.plain_vector.Goals as goal
 

@@ -1,4 +1,4 @@
-use Rattle.std.proofs.Common.{◌∙◌, ap₂, sym, ◌+◌, ◌*◌, arith}
+use Rattle.std.proofs.Common.{◌∙◌, ap₂, sym, ◌+◌, arith}
 use Rattle.hv_search.specs.Windows.{plane_of_grid}
 use Rattle.hv_search.specs.Plain.{gap_of}
 use Rattle.hv_search.proofs.CoarseLemmas.{total_of_none, total_more}

@@ -20,7 +20,7 @@ use Rattle.hv_inter_model.specs.Interpolation.{inter_sample, inter_predicted}
 use Rattle.hv_search_model.specs.MotionSearch.{vector, moved, around, Score, least_around, absolute_differences, node_area, fractional_score}
 use Rattle.hv_search_model.specs.MotionLaws.{IsWithin}
 use Rattle.hv_search.specs.declared.scored.Scored.{Scored}
-use Rattle.hv_search.specs.Fraction.{around_place, IsBestOfNine, IsLeastAround}
+use Rattle.hv_search.specs.Fraction.{around_place, IsBestOf, IsBestOfNine, IsLeastAround}
 use Rattle.hv_search.proofs.FullLemmas.{sad_of_runs, total_of_rows}
 
 -- ---- scores
@@ -90,10 +90,10 @@ around_1 : (step : ℕ) (mv : Mv) → around 1 step mv ≡ tabulate 9 (λ t. mov
 unfolding tabulate
 around_1 step mv = refl
 
-pub best_of_one : (score : Score) (step : ℕ) (centre : Mv) (best : Scored) → best.mv ≡ centre → best.sum ≡ score centre →
-    IsBestOfNine score step centre 0 best
+pub best_of_one : (score : Score) (place : ℕ → Mv) (centre : Mv) (best : Scored) → best.mv ≡ centre → best.sum ≡ score centre →
+    IsBestOf score centre place 0 best
 unfolding tabulate
-best_of_one score step centre best e f = record { is = e; sum = f ∙ ap score (sym e) }
+best_of_one score place centre best e f = record { is = e; sum = f ∙ ap score (sym e) }
 
 picked : (b : Bool) (second first : Scored) → (cond b second first).mv ≡ cond b second.mv first.mv
 picked true second first = refl
@@ -104,19 +104,19 @@ picked_sum : (score : Score) (b : Bool) (second first : Scored) → second.sum �
 picked_sum score true second first e f = e
 picked_sum score false second first e f = f
 
-pub best_of_nine_more : (score : Score) (step : ℕ) (centre : Mv) (t : ℕ) (first second : Scored) → IsBestOfNine score step centre t first →
-    second.sum ≡ score second.mv → second.mv ≡ around_place step centre t →
-    IsBestOfNine score step centre (t + 1) (cond (nat_lt second.sum first.sum) second first)
-best_of_nine_more score step centre t first second best sum here = record {
+pub best_of_one_more : (score : Score) (place : ℕ → Mv) (centre : Mv) (t : ℕ) (first second : Scored) → IsBestOf score centre place t first →
+    second.sum ≡ score second.mv → second.mv ≡ place t →
+    IsBestOf score centre place (t + 1) (cond (nat_lt second.sum first.sum) second first)
+best_of_one_more score place centre t first second best sum here = record {
   is = picked (nat_lt second.sum first.sum) second first ∙
       ap₂ (λ a b. cond (nat_lt a b) second.mv first.mv) sum best.sum ∙
       ap₂ (λ a b. cond (nat_lt (score a) (score b)) a b) here best.is ∙
-      sym (ap (first_least score centre) pushed ∙ first_least_push score centre (tabulate t (around_place step centre)) (around_place step centre t));
+      sym (ap (first_least score centre) pushed ∙ first_least_push score centre (tabulate t place) (place t));
   sum = picked_sum score (nat_lt second.sum first.sum) second first sum best.sum;
 }
   where
-    pushed : tabulate (t + 1) (around_place step centre) ≡ tabulate t (around_place step centre) ++ around_place step centre t ∷ []
-    pushed = ap (λ n. tabulate n (around_place step centre)) (add-one t) ∙ tabulate_push t (around_place step centre)
+    pushed : tabulate (t + 1) place ≡ tabulate t place ++ place t ∷ []
+    pushed = ap (λ n. tabulate n place) (add-one t) ∙ tabulate_push t place
 
 -- the middle place is the vector itself
 pub place_4 : (step : ℕ) (mv : Mv) → around_place step mv 4 ≡ mv

@@ -23,11 +23,11 @@ use Rattle.hv_search.proofs.FractionLemmas.{sum_is, predicted_at}
 
 -- ---- a whole sample more
 
-up : (n m : ℕ) → n < m → negsuc n +ℤ pos m ≡ pos (m - 1 - n)
-up n m h = omega (arith, ints, h)
+across_0 : (n : ℕ) → n < 4 → negsuc n +ℤ pos 4 ≡ pos (3 - n)
+across_0 n h = omega (arith, ints, h)
 
-still_below : (n m : ℕ) → m ≤ n → negsuc n +ℤ pos m ≡ negsuc (n - m)
-still_below n m h = omega (arith, ints, h)
+below_0 : (n : ℕ) → 4 ≤ n → negsuc n +ℤ pos 4 ≡ negsuc (n - 4)
+below_0 n h = omega (arith, ints, h)
 
 whole_next : (z : ℤ) → int_shr (z +ℤ pos 4) 2 ≡ int_shr z 2 +ℤ pos 1
 whole_next (pos n) = let e : (n + 4) / 4 ≡ n / 4 + 1 = omega arith in ap pos e
@@ -36,11 +36,11 @@ whole_next (negsuc n) =
     (λ less.
     let none : (3 - n) / 4 ≡ 0 = omega arith in
     let first : n / 4 ≡ 0 = omega (arith, less) in
-    ap (λ z. int_shr z 2) (up n 4 less) ∙ ap pos none ∙ sym (ap (λ k. negsuc k +ℤ pos 1) first))
+    ap (λ z. int_shr z 2) (across_0 n less) ∙ ap pos none ∙ sym (ap (λ k. negsuc k +ℤ pos 1) first))
     (λ more.
     let same : (n - 4) / 4 ≡ n / 4 - 1 = omega (arith, more) in
-    ap (λ z. int_shr z 2) (still_below n 4 more) ∙ ap negsuc same ∙
-    sym (still_below (n / 4) 1 (omega (arith, more))))
+    let next : negsuc (n / 4) +ℤ pos 1 ≡ negsuc (n / 4 - 1) = omega (arith, ints, more) in
+    ap (λ z. int_shr z 2) (below_0 n more) ∙ ap negsuc same ∙ sym next)
     (cases_lt n 4)
 
 fraction_next : (z : ℤ) → fraction true (z +ℤ pos 4) ≡ fraction true z
@@ -49,10 +49,10 @@ fraction_next (negsuc n) =
     ⊎_elim
     (λ less.
     let e : (3 - n) % 4 ≡ 3 - n % 4 = omega (arith, less) in
-    ap (λ z. fraction true z) (up n 4 less) ∙ e)
+    ap (λ z. fraction true z) (across_0 n less) ∙ e)
     (λ more.
     let e : 3 - (n - 4) % 4 ≡ 3 - n % 4 = omega (arith, more) in
-    ap (λ z. fraction true z) (still_below n 4 more) ∙ e)
+    ap (λ z. fraction true z) (below_0 n more) ∙ e)
     (cases_lt n 4)
 
 add_none : (z : ℤ) → z +ℤ pos 0 ≡ z

@@ -14,3 +14,4 @@ mod HalfLemmas
 mod BlockLemmas
 mod VectorLemmas
 mod MotionLemmas
+mod PlainLemmas

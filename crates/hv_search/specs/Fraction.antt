@@ -19,11 +19,15 @@ abbrev pub AreScores : Score → ℕ → Mv → ℕ → List ℕ → Type 0
 AreScores score step centre count sums =
     HasFirst 0 count (λ t. score (around_place step centre t)) sums
 
--- the best of it and of the first so many places
-pub record IsBestOfNine (score : Score) (step : ℕ) (centre : Mv) (count : ℕ) (best : Scored) :
+-- the best of a vector and of the first so many places
+pub record IsBestOf (score : Score) (centre : Mv) (place : ℕ → Mv) (count : ℕ) (best : Scored) :
     Type 0 where
-  pub is : best.mv ≡ first_least score centre (tabulate count (around_place step centre))
+  pub is : best.mv ≡ first_least score centre (tabulate count place)
   pub sum : best.sum ≡ score best.mv
+
+abbrev pub IsBestOfNine : Score → ℕ → Mv → ℕ → Scored → Type 0
+IsBestOfNine score step centre count best =
+    IsBestOf score centre (around_place step centre) count best
 
 -- the best of all nine
 pub record IsLeastAround (score : Score) (step : ℕ) (centre : Mv) (best : Scored) : Type 0 where

@@ -6,3 +6,4 @@ pub mod Fraction
 pub mod Vectors
 pub mod Motion
 pub mod Searched
+pub mod Plain

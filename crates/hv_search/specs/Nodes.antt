@@ -107,19 +107,6 @@ LeastKeyShows = (score : ℕ → ℕ) → IsScore score → (k : ℕ) →
     k ≡ least_of 4294967295 (key_at score) 289 →
     IsFirstLeast (λ i. score (place_of i)) 290 (k % 512) × (k / 512 ≡ score (place_of (k % 512)))
 
-abbrev pub WovenIsSquare : Type 0
-WovenIsSquare = (s r packed window : List ℕ) (stride p dx dy : ℕ) → Holds s stride 64 →
-    Holds r stride 80 → IsWovenBlock s stride packed → IsWovenWindow r stride window → p < 64 →
-    dx < 17 → dy < 17 → column_at p < 8 → row_at p < 8 →
-    woven_sad packed (64 * p) window (there_of p dx dy) ≡ square_sad s r stride dx dy p
-
-abbrev pub NodeInFour : Type 0
-NodeInFour = (s r : List ℕ) (stride x y n dx dy : ℕ) → Holds s stride 64 → Holds r stride 80 →
-    x + (n + n) ≤ 64 → y + (n + n) ≤ 64 → dx < 17 → dy < 17 →
-    node_sad s r stride x y (n + n) dx dy ≡
-    (node_sad s r stride x y n dx dy + node_sad s r stride (x + n) y n dx dy) +
-    (node_sad s r stride x (y + n) n dx dy + node_sad s r stride (x + n) (y + n) n dx dy)
-
 -- the score of the node at place p when the other block lies where t says
 abbrev pub score_at : List ℕ → List ℕ → ℕ → ℕ → ℕ → ℕ → ℕ
 score_at s r stride p side t =

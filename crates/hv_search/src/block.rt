@@ -40,7 +40,7 @@ fn shown_vector(centre: Mv, key: u32) -> Mv
 
 /// The vector that is four times as long.
 #[inline(always)]
-fn quadrupled(mv: Mv) -> Mv
+pub(crate) fn quadrupled(mv: Mv) -> Mv
     requires { IsWithin 600 mv }
     ensures { result ≡ times 4 mv }
 {

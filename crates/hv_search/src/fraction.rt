@@ -48,7 +48,7 @@ fn window_of(samples: &[u8], side: usize) -> Window<'_>
 }
 
 /// The score of a vector for a node that lies wholly inside of the input.
-fn fractional_sum(input: &Plane, reference: &Plane, square: Square, mv: Mv) -> u32
+pub(crate) fn fractional_sum(input: &Plane, reference: &Plane, square: Square, mv: Mv) -> u32
     requires across { square.x + square.side ≤ input.now.width }
     requires down { square.y + square.side ≤ input.now.height }
     ensures { result ≡
@@ -127,7 +127,7 @@ fn quarter_sums(input: &Plane, reference: &Plane, square: Square, half: Scored) 
 
 /// The first of least score of a vector and the eight that lie a step around it, whose scores come
 /// by rows.
-fn least_of_nine(sums: &[u64; 9], centre: Mv, step: u8) -> Scored
+pub(crate) fn least_of_nine(sums: &[u64; 9], centre: Mv, step: u8) -> Scored
     requires near { IsWithin 30000 centre }
     requires step { step ≤ 2 }
     ensures { (score : Score) → AreScores score step centre 9 sums.now →

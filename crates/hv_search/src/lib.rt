@@ -15,6 +15,8 @@ mod nodes;
 mod number;
 mod part;
 mod picture;
+#[cfg(test)]
+mod plain;
 mod quarter;
 mod scored;
 mod source;

@@ -28,7 +28,7 @@ fn woven_8(a: u8x8, b: u8x8) -> u8x16
     a.shuffle(b, [0, 8, 1, 9, 2, 10, 3, 11, 4, 12, 5, 13, 6, 14, 7, 15])
 }
 
-/// Column and row of block `place`.
+/// The column of block `place`.
 #[inline(always)]
 pub(crate) fn column_of(place: usize) -> usize
     requires { place < 64 }
@@ -38,6 +38,7 @@ pub(crate) fn column_of(place: usize) -> usize
     place / 16 % 2 + 2 * (place / 4 % 2) + 4 * (place % 2)
 }
 
+/// The row of block `place`.
 #[inline(always)]
 pub(crate) fn row_of(place: usize) -> usize
     requires { place < 64 }
@@ -230,6 +231,7 @@ pub(crate) fn keep_least(sums: &[u32; 1088], at: usize, candidate: u32, keys: &m
     keys.whole = keys.whole.min(whole * 512 + candidate);
 }
 
+/// 64 sums from place `at` on.
 #[inline(always)]
 fn loaded_64(sums: &[u32; 1088], at: usize) -> u32x64
     requires { at + 64 ≤ 1088 }
@@ -238,6 +240,7 @@ fn loaded_64(sums: &[u32; 1088], at: usize) -> u32x64
     u32x64::from_slice(&sums[at..])
 }
 
+/// The sums of nodes of 16x16 from those of 8x8.
 #[inline(always)]
 fn sixteens_of(eights: u32x64) -> u32x16
     requires { (j : ℕ) → j < 64 → slice_index eights j ≤ 16320 }
@@ -254,6 +257,7 @@ fn sixteens_of(eights: u32x64) -> u32x16
     )
 }
 
+/// The sums of nodes of 32x32 from those of 16x16.
 #[inline(always)]
 fn thirty_twos_of(sixteens: u32x16) -> u32x4
     requires { (j : ℕ) → j < 16 → slice_index sixteens j ≤ 65280 }
@@ -270,6 +274,7 @@ fn thirty_twos_of(sixteens: u32x16) -> u32x4
     )
 }
 
+/// The sum of the block from those of 32x32.
 #[inline(always)]
 fn whole_of(sums: u32x4) -> u32
     requires { (j : ℕ) → j < 4 → slice_index sums j ≤ 261120 }

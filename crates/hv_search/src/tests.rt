@@ -2,8 +2,14 @@
 
 ghost use Rattle.std.specs.Prelude.{◌≡◌, ◌*◌, ◌<◌, length, IfOk};
 ghost use Rattle.hv_types.specs.Configuration.{picture_bytes, padded_width, padded_height};
+ghost use Rattle.hv_search.specs.Motion.{IsNode, block_count};
 ghost use Rattle.hv_filter_model.specs.Blocks.{luma_side, blocks_over};
 
+use crate::plain::plain_vector;
+use crate::quarter::quarter_samples;
+use crate::source::Source;
+use crate::square::Square;
+use crate::window::grid_of;
 use crate::{Motion, search_picture};
 use hv_decision::{Group, Structure};
 use hv_plan::{Mv, Node};
@@ -43,6 +49,18 @@ enum Scene {
     Wave,
     /// Samples alike.
     Flat,
+    /// Squares of 8x8 that have nothing to do with one another, and grain over them.
+    Noise { squares: u32, grain: u32 },
+}
+
+/// Three numbers mixed.
+fn mixed(x: u32, y: u32, seed: u32) -> u32 {
+    let sum = x
+        .wrapping_mul(374761393)
+        .wrapping_add(y.wrapping_mul(668265263))
+        .wrapping_add(seed.wrapping_mul(2246822519));
+    let product = (sum ^ (sum >> 13)).wrapping_mul(1274126177);
+    product ^ (product >> 16)
 }
 
 /// The sample of a scene in column `x` of row `y`.
@@ -66,6 +84,12 @@ fn sample(scene: Scene, x: i32, y: i32) -> u8 {
             (right.wrapping_add(y) % 256) as u8
         }
         Scene::Flat => 77,
+        Scene::Noise { squares, grain } => {
+            let (x, y) = (x.wrapping_add(4096), y.wrapping_add(4096));
+            let (x, y) = (x.unsigned_abs(), y.unsigned_abs());
+            let base = mixed(x / 8, y / 8, squares) % 192;
+            (base.wrapping_add(mixed(x, y, grain) % 64) % 256) as u8
+        }
     }
 }
 
@@ -88,6 +112,32 @@ fn raw_picture(
     Ok(raw)
 }
 
+/// A group of two pictures: the second one shows its scene so many samples further right and down.
+fn group_of(
+    alloc: Global,
+    config: &Config,
+    first: Scene,
+    second: Scene,
+    right: i32,
+    down: i32,
+) -> Result<Group, Fail>
+    requires { config.now.group ≡ 2 }
+    ensures config { IfOk result (λ group. group.input.config ≡ config.now) }
+    ensures count { IfOk result (λ group. length group.input.pictures ≡ 2) }
+{
+    let mut input = GroupInput::new(alloc, *config)?;
+    let raw = raw_picture(alloc, config, first, 0, 0)?;
+    input.push(&raw)?;
+    let raw = raw_picture(alloc, config, second, right, down)?;
+    input.push(&raw)?;
+    let structure = Structure::of(alloc, 2, config.settings().levels)?;
+    Ok(Group {
+        number: 0,
+        input,
+        structure,
+    })
+}
+
 /// Motion search of the second of two pictures, which shows so many samples further right and down
 /// what the first one shows.
 fn searched(
@@ -101,17 +151,7 @@ fn searched(
     ensures width { IfOk result (λ m. m.width ≡ padded_width config.now) }
     ensures height { IfOk result (λ m. m.height ≡ padded_height config.now) }
 {
-    let mut input = GroupInput::new(alloc, *config)?;
-    let raw = raw_picture(alloc, config, scene, 0, 0)?;
-    input.push(&raw)?;
-    let raw = raw_picture(alloc, config, scene, right, down)?;
-    input.push(&raw)?;
-    let structure = Structure::of(alloc, 2, config.settings().levels)?;
-    let group = Group {
-        number: 0,
-        input,
-        structure,
-    };
+    let group = group_of(alloc, config, scene, scene, right, down)?;
     Ok(search_picture(alloc, &group, 1)?)
 }
 
@@ -201,6 +241,102 @@ fn flat_pictures(rt: HostRuntime) -> Result<(), Fail> {
             [mv, mv, None],
             "{effort}"
         );
+    }
+    Ok(())
+}
+
+/// The last node of 8x8 of a block.
+const LAST: Node = Node {
+    depth: 3,
+    x: 7,
+    y: 7,
+};
+
+/// The second node of 32x32 of a block.
+const HALF: Node = Node {
+    depth: 1,
+    x: 4,
+    y: 0,
+};
+
+/// Whether the vector of a node is that of the search without any shortcut.
+fn node_agrees(
+    motion: &Motion,
+    effort: u8,
+    input: Source,
+    reference: Source,
+    index: u32,
+    node: Node,
+) -> bool
+    requires index { index < block_count motion.now }
+    requires node { IsNode node }
+{
+    let columns = motion.width.div_ceil(64);
+    let side = match node.depth {
+        0 => 64,
+        1 => 32,
+        2 => 16,
+        _ => 8,
+    };
+    let square = Square {
+        x: 64 * (index % columns) + 8 * u32::from(node.x),
+        y: 64 * (index / columns) + 8 * u32::from(node.y),
+        side,
+    };
+    motion.vector(0, index, node) == plain_vector(effort, input, reference, square)
+}
+
+/// Whether the vectors of some nodes of each block are those of the search without any shortcut.
+fn agrees(alloc: Global, group: &Group, effort: u8) -> Result<bool, Fail>
+    requires { length group.now.input.pictures ≡ 2 }
+{
+    let motion = search_picture(alloc, group, 1)?;
+    let luma = &group.input.picture(1).luma;
+    let samples = quarter_samples(alloc, grid_of(luma))?;
+    let input = Source {
+        luma,
+        samples: &samples,
+    };
+    let luma = &group.input.picture(0).luma;
+    let samples = quarter_samples(alloc, grid_of(luma))?;
+    let reference = Source {
+        luma,
+        samples: &samples,
+    };
+    let count = motion.width.div_ceil(64) * motion.height.div_ceil(64);
+    let mut agree = true;
+    for index in 0..count {
+        agree = agree
+            && node_agrees(&motion, effort, input, reference, index, SMALL)
+            && node_agrees(&motion, effort, input, reference, index, LAST)
+            && node_agrees(&motion, effort, input, reference, index, MIDDLE)
+            && node_agrees(&motion, effort, input, reference, index, HALF)
+            && node_agrees(&motion, effort, input, reference, index, WHOLE);
+    }
+    Ok(agree)
+}
+
+/// Ten groups of noise: the search finds what the one without any shortcut does.
+#[test]
+fn noise(rt: HostRuntime) -> Result<(), Fail> {
+    for seed in 0..10u32 {
+        let effort = 1 + (seed % 2) as u8;
+        let config = match seed % 3 {
+            0 => config_of(&rt, 8, 8, effort),
+            1 => config_of(&rt, 72, 56, effort),
+            _ => config_of(&rt, 136, 72, effort),
+        };
+        let first = Scene::Noise {
+            squares: seed,
+            grain: 100 + seed,
+        };
+        let second = Scene::Noise {
+            squares: seed,
+            grain: 200 + seed,
+        };
+        let (right, down) = (seed as i32 - 5, 3 * (seed as i32) - 12);
+        let group = group_of(rt.alloc(), &config, first, second, right, down)?;
+        assert!(rt; agrees(rt.alloc(), &group, effort)?, "{seed}");
     }
     Ok(())
 }

@@ -46,7 +46,7 @@ pub(crate) fn corner(place: u32, component: i16, before: u8) -> i64
 
 /// The place on a side that is nearest to the one `ahead` of a coordinate.
 #[inline(always)]
-fn place_near(coordinate: i64, ahead: usize, side: u32) -> usize
+pub(crate) fn place_near(coordinate: i64, ahead: usize, side: u32) -> usize
     requires near { unsigned_abs coordinate ≤ 8589934592 }
     requires most { ahead ≤ 79 }
     requires some { 0 < side }

@@ -58,8 +58,8 @@ fn add_neighbours(sums: i16x8, samples: &[u8], taps: &[i8]) -> i16x8
     sums + clipped(products(samples, taps))
 }
 
-/// Eight sums of taps times samples, from place `at` and every second one behind it on: each pair of
-/// taps meets two neighbours, `step` behind those of the pair before.
+/// Eight sums of taps times samples, from place `at` and every second one behind it on: each pair
+/// of taps meets two neighbours, `step` behind those of the pair before.
 #[inline(always)]
 pub(crate) fn paired_sums<const T: usize>(
     taps: &[i8; T],

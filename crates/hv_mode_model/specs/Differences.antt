@@ -31,8 +31,8 @@ prediction_with_difference distances n (Intra mode) = Intra mode
 prediction_with_difference distances n (Inter motion) =
     Inter (record motion { MvdL0 = difference_of distances n motion })
 
--- what is coded of a node of this size at this address, whose tree has vectors, behind these squares
--- of its block, which have vectors
+-- what is coded of a node of this size at this address, whose tree has vectors, behind these
+-- squares of its block, which have vectors
 unfoldable pub tree_with_differences : Distances → Look → ℕ → ℕ → List Square → Tree → Tree
 tree_with_differences distances look size address earlier Outside = Outside
 tree_with_differences distances look size address earlier (Leaf prediction units) =

@@ -1,5 +1,5 @@
--- What is chosen may be coded, has the vectors that it was chosen with and decodes to what the choice
--- was made by, and is chosen in a block as in the picture.
+-- What is chosen may be coded, has the vectors that it was chosen with and decodes to what the
+-- choice was made by, and is chosen in a block as in the picture.
 use Rattle.std.specs.Prelude.{◌≡◌, ℕ, ◌≤◌, true, List, [], ◌∷◌, Some}
 use Rattle.hv_plan.specs.declared.prediction.Mv.{Mv}
 use Rattle.hv_plan.specs.Levels.{has_16_bits}

@@ -35,7 +35,7 @@ use Rattle.hv_tree_model.proofs.NodeLemmas.{length-sites_from}
 -- ---- units of trees and offsets, one of each for each block
 
 module _ (slice_type : SliceKind) (references : ℕ) where
-  units_valid : (places : List Site) (trees : List Tree) (offsets : List SaoParam) →
+  pub units_valid : (places : List Site) (trees : List Tree) (offsets : List SaoParam) →
       AreTrees slice_type references places trees → length offsets ≡ length places →
       Each AreOffsets offsets →
       AreValid slice_type references places (tree_units places trees offsets)
@@ -49,7 +49,7 @@ module _ (slice_type : SliceKind) (references : ℕ) where
     units_valid places trees offsets are.1 (omega (arith, long)) each.1,
   )
 
-  trees_kept : (places : List Site) (trees : List Tree) (offsets : List SaoParam) →
+  pub trees_kept : (places : List Site) (trees : List Tree) (offsets : List SaoParam) →
       AreTrees slice_type references places trees → length offsets ≡ length places →
       map (λ unit. unit.tree) (tree_units places trees offsets) ≡ trees
   trees_kept [] [] offsets are long = refl
@@ -59,7 +59,7 @@ module _ (slice_type : SliceKind) (references : ℕ) where
   trees_kept (site ∷ places) (tree ∷ trees) (sao ∷ offsets) are long =
       ap (λ rest. tree ∷ rest) (trees_kept places trees offsets are.1 (omega (arith, long)))
 
-  offsets_kept : (places : List Site) (trees : List Tree) (offsets : List SaoParam) →
+  pub offsets_kept : (places : List Site) (trees : List Tree) (offsets : List SaoParam) →
       AreTrees slice_type references places trees → length offsets ≡ length places →
       map (λ unit. unit.sao) (tree_units places trees offsets) ≡ offsets
   offsets_kept [] trees [] are long = refl

@@ -14,6 +14,8 @@ pub mod RoundTripLemmas
 pub mod ChosenOffsetLemmas
 pub mod IntraUnitLemmas
 pub mod IntraStreamLemmas
+pub mod InterUnitLemmas
+pub mod InterStreamLemmas
 pub mod PlannedLevelLemmas
 pub mod PlannedSquareLemmas
 pub mod IntraTreeLemmas

@@ -11,3 +11,5 @@ pub mod IntraPictures
 pub mod IntraLaws
 pub mod PlannedPictures
 pub mod IntraEncodingLaws
+pub mod InterPictures
+pub mod InterLaws

@@ -4,6 +4,7 @@
 #![tactic(auto)]
 
 mod encoding_laws;
+mod inter_pictures;
 mod intra_encoding;
 mod intra_pictures;
 mod payload_laws;
@@ -12,6 +13,10 @@ mod reference_laws;
 mod round_trip;
 
 pub use encoding_laws::{encoding_appends, encoding_ignores_samples, reconstruction_appends};
+pub use inter_pictures::{
+    each_inter_picture_is_shown, inter_pictures_are_decoded, inter_streams_are_decoded,
+    inter_units_may_be_coded, pictures_follow_their_references,
+};
 pub use intra_encoding::{intra_encoding_appends, intra_reconstruction_appends};
 pub use intra_pictures::{
     each_intra_picture_is_shown, intra_pictures_are_decoded, intra_streams_are_decoded,

@@ -10,6 +10,7 @@ mod hand_inter;
 mod leaves;
 mod levels;
 mod offsets;
+mod searches;
 mod units;
 
 use std::env;
@@ -1144,5 +1145,6 @@ fn main() -> ExitCode {
     edges::print_checksums(name, rounds);
     offsets::print_checksums(name, rounds);
     leaves::print_checksums(name, rounds);
+    searches::print_checksums(name, by_hand, rounds);
     ExitCode::SUCCESS
 }

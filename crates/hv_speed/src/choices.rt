@@ -59,7 +59,7 @@ fn noise(x: u32, y: u32, scale: u32, seed: u32) -> u32
 }
 
 /// The sample in this column and row: half of it is noise of 64 samples' scale.
-fn sample_of(x: u32, y: u32, seed: u32) -> u8 {
+pub fn sample_of(x: u32, y: u32, seed: u32) -> u8 {
     let mut sum = noise(x, y, 6, seed).wrapping_mul(128);
     sum = sum.wrapping_add(noise(x, y, 5, seed).wrapping_mul(64));
     sum = sum.wrapping_add(noise(x, y, 4, seed).wrapping_mul(32));

@@ -15,6 +15,7 @@ mod leaves;
 mod levels;
 mod offsets;
 mod pictures;
+mod searches;
 mod streams;
 mod transforms;
 mod units;
@@ -31,6 +32,7 @@ use leaves::LeafKernel;
 use levels::{Blocks, LevelKernel};
 use offsets::{OffsetKernel, Shown};
 use pictures::Pictures;
+use searches::SearchKernel;
 use std::alloc::Global;
 use std::env;
 use std::io::Print;
@@ -343,6 +345,28 @@ fn print_checksums_of_choices(
     Ok(())
 }
 
+/// As `print_checksums`, for motion search. A round is one call.
+fn print_checksums_of_searches(
+    rt: &impl Print,
+    alloc: Global,
+    kernels: &[SearchKernel],
+    rounds: u32,
+) -> anyhow::Result<()> {
+    for kernel in kernels {
+        let searched = kernel.searched(alloc)?;
+        let mut sum = 0u64;
+        for _ in 0..rounds {
+            let Ok(number) = searched.run(alloc) else {
+                bail!("not enough memory");
+            };
+            sum = sum.wrapping_add(number);
+        }
+        let name = kernel.name();
+        println!(rt; "{name} {sum}")?;
+    }
+    Ok(())
+}
+
 fn main(rt: HostRuntime) -> anyhow::Result<()> {
     let mut words = env::args(&rt)?.skip(1);
     let (Some(name), Some(rounds)) = (words.next(), words.next()) else {
@@ -362,7 +386,8 @@ fn main(rt: HostRuntime) -> anyhow::Result<()> {
         print_checksums_of_edges(&rt, rt.alloc(), &EdgeKernel::ALL, rounds)?;
         print_checksums_of_offsets(&rt, rt.alloc(), &OffsetKernel::ALL, rounds)?;
         print_checksums_of_leaves(&rt, rt.alloc(), &LeafKernel::ALL, rounds)?;
-        return print_checksums_of_choices(&rt, rt.alloc(), &ChoiceKernel::ALL, rounds);
+        print_checksums_of_choices(&rt, rt.alloc(), &ChoiceKernel::ALL, rounds)?;
+        return print_checksums_of_searches(&rt, rt.alloc(), &SearchKernel::ALL, rounds);
     }
     if let Some(kernel) = BitKernel::named(name.as_str()) {
         return print_checksums_of_bits(&rt, rt.alloc(), &[kernel], rounds);
@@ -393,6 +418,9 @@ fn main(rt: HostRuntime) -> anyhow::Result<()> {
     }
     if let Some(kernel) = ChoiceKernel::named(name.as_str()) {
         return print_checksums_of_choices(&rt, rt.alloc(), &[kernel], rounds);
+    }
+    if let Some(kernel) = SearchKernel::named(name.as_str()) {
+        return print_checksums_of_searches(&rt, rt.alloc(), &[kernel], rounds);
     }
     match Kernel::named(name.as_str()) {
         Some(kernel) => print_checksums(&rt, rt.alloc(), &[kernel], rounds),

@@ -109,6 +109,30 @@ whole_case cfg d w r NoMemory h e = absurd cc
 whole_case cfg d w r TooLong h e = absurd cc
 whole_case cfg d w r ReportFault h e = record { totals = h.totals; encoded = h.encoded }
 
+-- no read failed but where the status says so
+pub source_well : (cfg : Settings) (d : Drawn) (w r : Put) (s : Status) → Concludes cfg d w r s → (s ≡ ReadFault → ⊥) →
+    d.faults_now ≡ d.faults_before
+source_well cfg d w r Ok h other = h.encoded.no_faults.reading
+source_well cfg d w r Words h other = absurd h
+source_well cfg d w r ReadFault h other = absurd (other refl)
+source_well cfg d w r (ShortPicture have) h other = h.encoded.no_faults.reading
+source_well cfg d w r WriteFault h other = h.encoded.reading
+source_well cfg d w r NoMemory h other = h.encoded.no_faults.reading
+source_well cfg d w r TooLong h other = h.encoded.no_faults.reading
+source_well cfg d w r ReportFault h other = h.encoded.no_faults.reading
+
+-- .. and so with writing
+pub sink_well : (cfg : Settings) (d : Drawn) (w r : Put) (s : Status) → Concludes cfg d w r s → (s ≡ WriteFault → ⊥) →
+    w.faults_now ≡ w.faults_before
+sink_well cfg d w r Ok h other = h.encoded.no_faults.writing
+sink_well cfg d w r Words h other = absurd h
+sink_well cfg d w r ReadFault h other = h.encoded.writing
+sink_well cfg d w r (ShortPicture have) h other = h.encoded.no_faults.writing
+sink_well cfg d w r WriteFault h other = absurd (other refl)
+sink_well cfg d w r NoMemory h other = h.encoded.no_faults.writing
+sink_well cfg d w r TooLong h other = h.encoded.no_faults.writing
+sink_well cfg d w r ReportFault h other = h.encoded.no_faults.writing
+
 pub groups_case : (cfg : Settings) (d : Drawn) (w r : Put) (s : Status) → Concludes cfg d w r s → is_of_input s ≡ true →
     BothTold d (λ bytes left. WroteGroups cfg bytes left w.old w.new)
 groups_case cfg d w r Ok h e = cc

@@ -214,6 +214,7 @@ module _ (cfg : Settings) (b : IsBuilt cfg) (video : IsVideo cfg) where
   all_case left w r WriteFault h = record {
     encoded = record {
       rises = h.encoded.rises;
+      reading = refl;
       wrote =
           as_told (λ bytes rest. WrotePart cfg bytes rest w.old w.new)
           (part_of_all left w.old w.new (h.encoded.wrote all left refl refl));
@@ -225,6 +226,7 @@ module _ (cfg : Settings) (b : IsBuilt cfg) (video : IsVideo cfg) where
       wrote =
           as_told (λ bytes rest. WroteSome cfg bytes rest w.old w.new)
           (some_of_all left w.old w.new (h.encoded.wrote all left refl refl));
+      no_faults = record { reading = refl; writing = h.encoded.no_faults.writing };
     };
     reported = h.reported;
   }

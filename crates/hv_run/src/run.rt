@@ -1,6 +1,6 @@
 //! The top call.
 
-ghost use Rattle.std.specs.Prelude.{◌≡◌, ◌⊎◌, ℕ, List, Some, length, IsTrue, false};
+ghost use Rattle.std.specs.Prelude.{◌≡◌, ◌≢◌, ◌⊎◌, ℕ, List, Some, length, IsTrue, false};
 ghost use Rattle.hv_types.specs.declared.settings.Settings.{Settings as SettingsSeen};
 ghost use Rattle.hv_types.specs.declared.picture.Picture.{Picture as PictureSeen};
 ghost use Rattle.hv_types.specs.Configuration.{picture_bytes};
@@ -63,13 +63,15 @@ pub fn run_encode<S: Source, K: Sink, P: Sink, G: Gate, R: Threads + Wait + Sync
     ensures ok_written { (cfg : SettingsSeen) (bytes : List ℕ) → AsksFor words.now cfg →
         input cfg (S.left source.old) ≡ Some bytes → IsTrue (is_whole result) →
         Grows (K.written out.old) (K.written out.new) (output cfg (pictures_in cfg bytes)) }
-    ensures ok_source_faults { IsTrue (is_whole result) →
-        S.faults source.new ≡ S.faults source.old }
-    ensures ok_out_faults { IsTrue (is_whole result) → K.faults out.new ≡ K.faults out.old }
     ensures ok_report { (cfg : SettingsSeen) (bytes : List ℕ) → AsksFor words.now cfg →
         input cfg (S.left source.old) ≡ Some bytes → result ≡ Status.Ok →
         Grows (P.written report.old) (P.written report.new) (line_of cfg (pictures_in cfg bytes)) }
     ensures ok_report_faults { result ≡ Status.Ok → P.faults report.new ≡ P.faults report.old }
+
+    // No call of the source failed but where the status says so, and none of the sink.
+    ensures source_faults { result ≢ Status.ReadFault →
+        S.faults source.new ≡ S.faults source.old }
+    ensures out_faults { result ≢ Status.WriteFault → K.faults out.new ≡ K.faults out.old }
 
     // With a generator the source stays as it was, the pictures are the generated ones, and no
     // status speaks of how an input ended.

@@ -16,7 +16,7 @@ use Rattle.hv_serial.specs.declared.answers.EncodeError.{EncodeError}
 use Rattle.hv_serial.specs.declared.answers.EncodeError.TheVariants.{ReadFault, ShortPicture, WriteFault, NoMemory, TooLong}
 use Rattle.hv_serial.specs.Transfers.{Drawn, Put, Grows, PutsPart}
 use Rattle.hv_serial.specs.Outcomes.{pictures_in, pictures_read, rest_in, whole_groups, IsReadToEnd, WroteGroups, WroteSome, WrotePart}
-use Rattle.hv_serial.specs.Endings.{Ends, EndsOk, EndsReadFault, EndsShort, EndsTooLong, EndsWriteFault, EndsNoMemory}
+use Rattle.hv_serial.specs.Endings.{Ends, EndsOk, EndsReadFault, EndsShort, EndsTooLong, NoFaults, EndsWriteFault, EndsNoMemory}
 use Rattle.hv_serial.specs.Steps.{Took, GroupRead, GroupFault, GroupShort, GroupTooMany, EndsGroup, PutsPartOfGroup, EndsWriting}
 use Rattle.hv_serial.proofs.GrowthLemmas.{PutsPart-more}
 use Rattle.hv_serial.proofs.StreamLemmas.{output_nothing}
@@ -62,6 +62,7 @@ pub end_fault : (cfg : Settings) (t : Totals) (d : Drawn) (old mid new : Option 
     Rises now last → EndsWriteFault cfg d (writing old new before last)
 end_fault cfg t d old mid new before now last h same rises = record {
   rises = subst (λ (j : ℕ). Rises j last) h.no_faults.writing rises;
+  reading = h.no_faults.reading;
   wrote = λ bytes left e f.
       subst (λ (x : List ℕ). WrotePart cfg bytes x old new)
       (one_told d.now [] left (h.read bytes e).left f)
@@ -71,8 +72,8 @@ end_fault cfg t d old mid new before now last h same rises = record {
 -- ---- before the first picture
 
 pub start_no_memory : (cfg : Settings) → IsBuilt cfg → (d : Drawn) (w : Put) → w.new ≡ w.old →
-    EndsNoMemory cfg d w
-start_no_memory cfg b d w same =
+    NoFaults d w → EndsNoMemory cfg d w
+start_no_memory cfg b d w same no_faults =
     let g : ℕ = cfg.group in
     let none : whole_groups cfg 0 ≡ 0 =
     ap (whole_groups cfg) (sym (zero-mul g)) ∙ whole_same cfg 0 b.valid.group_least ∙ zero-mul g in
@@ -85,6 +86,7 @@ start_no_memory cfg b d w same =
             (subst (λ (x : List ℕ). Grows w.old w.old x) (sym (output_nothing cfg))
             (Grows-none w.old));
       };
+      no_faults = no_faults;
     }
 
 -- ---- behind whole groups
@@ -143,10 +145,18 @@ module _ (cfg : Settings) (b : IsBuilt cfg) (before mid now old midw : Option (L
       (sym (ap (λ (n : ℕ). take n v) cut ∙ front_read k count part few bytes left f took))
       (a.encoded.wrote bytes e)
 
+  -- no call failed, where none of the group's did
+  read_well : rn ≡ rm → NoFaults (reading before now rb rn) (writing old midw wb wm)
+  read_well e = record {
+    reading = e ∙ a.encoded.no_faults.reading;
+    writing = a.encoded.no_faults.writing;
+  }
+
   at_fault : GroupFault cfg (reading mid now rm rn) →
       EndsReadFault cfg (reading before now rb rn) (writing old midw wb wm)
   at_fault r = record {
     rises = subst (λ (j : ℕ). Rises j rn) a.encoded.no_faults.reading r.rises;
+    writing = a.encoded.no_faults.writing;
     wrote = λ bytes left e f.
         let h = a.encoded.read bytes e in
         let s = r.read (drop (k * p) bytes) h.left in
@@ -197,6 +207,7 @@ module _ (cfg : Settings) (b : IsBuilt cfg) (before mid now old midw : Option (L
         };
         wrote = λ bytes left e f.
             groups_written r.count have r.room r.few bytes left e f (took bytes e);
+        no_faults = read_well r.no_fault;
       }
 
   at_too_many : GroupTooMany cfg t.pictures (reading mid now rm rn) →
@@ -215,6 +226,7 @@ module _ (cfg : Settings) (b : IsBuilt cfg) (before mid now old midw : Option (L
         wrote = λ bytes left e f.
             groups_written r.count 1 r.room (omega (arith, picture_bytes-least cfg b.valid)) bytes
             left e f (took bytes e);
+        no_faults = read_well r.no_fault;
       }
 
   -- the whole groups before it are written, where no byte of it is
@@ -235,10 +247,14 @@ module _ (cfg : Settings) (b : IsBuilt cfg) (before mid now old midw : Option (L
             (a.encoded.wrote bytes e);
       }
 
-  at_no_memory : (new : Option (List ℕ)) (wn count : ℕ) → new ≡ midw →
+  at_no_memory : (new : Option (List ℕ)) (wn count : ℕ) → new ≡ midw → wn ≡ wm → rn ≡ rm →
       ((rest : List ℕ) → mid ≡ Some rest → Took (count * p) rest now) →
       EndsNoMemory cfg (reading before now rb rn) (writing old new wb wn)
-  at_no_memory new wn count same read = record {
+  at_no_memory new wn count same wrote_well reads_well read = record {
+    no_faults = record {
+      reading = reads_well ∙ a.encoded.no_faults.reading;
+      writing = wrote_well ∙ a.encoded.no_faults.writing;
+    };
     wrote = λ bytes left e f.
         subst (λ (x : Option (List ℕ)). WroteSome cfg bytes left old x) (sym same)
         (some_written count bytes left e f
@@ -253,7 +269,7 @@ module _ (cfg : Settings) (b : IsBuilt cfg) (before mid now old midw : Option (L
   at_read_error ReadFault r = at_fault r
   at_read_error (ShortPicture have) r = at_short have r
   at_read_error WriteFault r = absurd r
-  at_read_error NoMemory r = at_no_memory midw wm r.count refl r.read
+  at_read_error NoMemory r = at_no_memory midw wm r.count refl refl r.no_fault r.read
   at_read_error TooLong r = at_too_many r
 
   -- m pictures behind the whole groups are one whole group more, or the last ones of the input
@@ -292,6 +308,7 @@ module _ (cfg : Settings) (b : IsBuilt cfg) (before mid now old midw : Option (L
       EndsWriteFault cfg (reading before now rb rn) (writing old new wb wn)
   at_write_fault new wn padded some r puts = record {
     rises = subst (λ (j : ℕ). Rises j wn) a.encoded.no_faults.writing puts.rises;
+    reading = r.no_fault ∙ a.encoded.no_faults.reading;
     wrote = λ bytes left e f.
         let m : ℕ = length padded in
         let v : List Picture = pictures_read cfg bytes left in
@@ -330,7 +347,8 @@ module _ (cfg : Settings) (b : IsBuilt cfg) (before mid now old midw : Option (L
   at_write_error new wn padded some r ReadFault h = absurd h
   at_write_error new wn padded some r (ShortPicture have) h = absurd h
   at_write_error new wn padded some r WriteFault h = at_write_fault new wn padded some r h
-  at_write_error new wn padded some r NoMemory h = at_no_memory new wn (length padded) h r.read
+  at_write_error new wn padded some r NoMemory h =
+      at_no_memory new wn (length padded) h.wrote h.no_fault r.no_fault r.read
   at_write_error new wn padded some r TooLong h = absurd h
 
 -- the settings that a group was read with are those that it is written with

@@ -44,12 +44,14 @@ picture_none d buffer n room none some read end no_fault = record {
 pub picture_short : (cfg : Settings) (d : Drawn) (buffer : List ℕ) (number n room : ℕ) →
     number < most_pictures → (n ≡ 0 → ⊥) → n < room → room ≡ picture_bytes cfg →
     ((bytes : List ℕ) → d.before ≡ Some bytes → Fills bytes d.now buffer n) →
-    (n < room → EndsAfter d.before n) → PictureShort cfg number n d
-picture_short cfg d buffer number n room below not_none few size read end = record {
+    (n < room → EndsAfter d.before n) → d.faults_now ≡ d.faults_before →
+    PictureShort cfg number n d
+picture_short cfg d buffer number n room below not_none few size read end no_fault = record {
   room = below;
   some = omega (arith, not_none);
   few = omega (arith, few, size);
   read = took_all d.before d.now buffer n room few read end;
+  no_fault = no_fault;
 }
 
 -- a whole one was there
@@ -88,14 +90,15 @@ picture_fault cfg d room small rises stops = record {
 -- a byte was there behind the last picture that a video may have
 pub picture_too_many : (d : Drawn) (buffer : List ℕ) (n : ℕ) → (n ≡ 0 → ⊥) → n ≤ 1 →
     ((bytes : List ℕ) → d.before ≡ Some bytes → Fills bytes d.now buffer n) →
-    PictureTooMany most_pictures d
-picture_too_many d buffer n not_none few read =
+    d.faults_now ≡ d.faults_before → PictureTooMany most_pictures d
+picture_too_many d buffer n not_none few read no_fault =
     let one : n ≡ 1 = omega (arith, not_none, few) in
     record {
       most = refl;
       read = λ bytes e.
           subst (λ (k : ℕ). Took k bytes d.now) one
           (record { there = (read bytes e).there; left = (read bytes e).left });
+      no_fault = no_fault;
     }
 
 pub picture_at : (cfg : Settings) (number same : ℕ) (buffer : List ℕ) (d : Drawn)
@@ -258,6 +261,7 @@ module _ (cfg : Settings) (before count : ℕ) (input : GroupInput)
     some = r.some;
     few = r.few;
     read = λ bytes e. took_all_behind have bytes e r.read;
+    no_fault = r.no_fault ∙ a.no_fault;
   }
   group_error room raw WriteFault r = absurd r
   group_error room raw NoMemory r = absurd r
@@ -266,13 +270,18 @@ module _ (cfg : Settings) (before count : ℕ) (input : GroupInput)
     room = room;
     number = r.most;
     read = λ bytes e. took_behind 1 bytes e r.read;
+    no_fault = r.no_fault ∙ a.no_fault;
   }
 
   -- no memory for one more
   pub group_no_memory : (raw : List ℕ) →
       PictureRead cfg (before + count) raw (reading mid now rm rn) →
       GroupNoMemory cfg (reading start now rs rn)
-  group_no_memory raw r = record { count = count + 1; read = took_next raw r }
+  group_no_memory raw r = record {
+    count = count + 1;
+    read = took_next raw r;
+    no_fault = r.no_fault ∙ a.no_fault;
+  }
 
 -- all pictures that a group has
 pub group_full : (cfg : Settings) (before count : ℕ) (input : GroupInput) (d : Drawn) →
@@ -301,6 +310,7 @@ group_not_begun cfg now r = record {
     there = omega (arith, zero-mul (picture_bytes cfg));
     left = e ∙ ap (λ (n : ℕ). Some (drop n bytes)) (sym (zero-mul (picture_bytes cfg)));
   };
+  no_fault = refl;
 }
 
 pub group_is : (cfg : Settings) (before : ℕ) (d : Drawn) (r s : Result GroupInput EncodeError) →

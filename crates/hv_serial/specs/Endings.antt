@@ -38,22 +38,27 @@ pub record EndsOk (cfg : Settings) (t : Totals) (d : Drawn) (w : Put) : Type 0 w
 
 pub record EndsReadFault (cfg : Settings) (d : Drawn) (w : Put) : Type 0 where
   pub rises : Rises d.faults_before d.faults_now
+  pub writing : w.faults_now ≡ w.faults_before
   pub wrote : BothTold d (λ bytes left. WroteGroups cfg bytes left w.old w.new)
 
 pub record EndsShort (cfg : Settings) (have : ℕ) (d : Drawn) (w : Put) : Type 0 where
   pub read : Told d (λ bytes. EndsWithin cfg have bytes d.now)
   pub wrote : BothTold d (λ bytes left. WroteGroups cfg bytes left w.old w.new)
+  pub no_faults : NoFaults d w
 
 pub record EndsTooLong (cfg : Settings) (d : Drawn) (w : Put) : Type 0 where
   pub read : Told d (λ bytes. GoesOn cfg bytes d.now)
   pub wrote : BothTold d (λ bytes left. WroteGroups cfg bytes left w.old w.new)
+  pub no_faults : NoFaults d w
 
 pub record EndsWriteFault (cfg : Settings) (d : Drawn) (w : Put) : Type 0 where
   pub rises : Rises w.faults_before w.faults_now
+  pub reading : d.faults_now ≡ d.faults_before
   pub wrote : BothTold d (λ bytes left. WrotePart cfg bytes left w.old w.new)
 
 pub record EndsNoMemory (cfg : Settings) (d : Drawn) (w : Put) : Type 0 where
   pub wrote : BothTold d (λ bytes left. WroteSome cfg bytes left w.old w.new)
+  pub no_faults : NoFaults d w
 
 abbrev pub Ends : Settings → Drawn → Put → Result Totals EncodeError → Type 0
 Ends cfg d w (Ok totals) = EndsOk cfg totals d w

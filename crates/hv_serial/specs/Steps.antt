@@ -60,10 +60,12 @@ pub record PictureShort (cfg : Settings) (number have : ℕ) (d : Drawn) : Type 
   pub some : 0 < have
   pub few : have < picture_bytes cfg
   pub read : Told d (λ bytes. TookAll have bytes d.now)
+  pub no_fault : d.faults_now ≡ d.faults_before
 
 pub record PictureTooMany (number : ℕ) (d : Drawn) : Type 0 where
   pub most : number ≡ most_pictures
   pub read : Told d (λ bytes. Took 1 bytes d.now)
+  pub no_fault : d.faults_now ≡ d.faults_before
 
 abbrev pub EndsPicture : Settings → ℕ → List ℕ → Drawn → Result Bool EncodeError → Type 0
 EndsPicture cfg number buffer d (Ok true) = PictureRead cfg number buffer d
@@ -113,6 +115,7 @@ pub record GroupShort (cfg : Settings) (before have : ℕ) (d : Drawn) : Type 0 
   pub some : 0 < have
   pub few : have < picture_bytes cfg
   pub read : Told d (λ bytes. TookAll (count * picture_bytes cfg + have) bytes d.now)
+  pub no_fault : d.faults_now ≡ d.faults_before
 
 -- behind `count` pictures of the group, the last that a video may have, there is a byte
 pub record GroupTooMany (cfg : Settings) (before : ℕ) (d : Drawn) : Type 0 where
@@ -120,11 +123,13 @@ pub record GroupTooMany (cfg : Settings) (before : ℕ) (d : Drawn) : Type 0 whe
   pub room : count < cfg.group
   pub number : before + count ≡ most_pictures
   pub read : Told d (λ bytes. Took (count * picture_bytes cfg + 1) bytes d.now)
+  pub no_fault : d.faults_now ≡ d.faults_before
 
 -- some pictures of the group were read whole
 pub record GroupNoMemory (cfg : Settings) (d : Drawn) : Type 0 where
   pub count : ℕ
   pub read : Told d (λ bytes. Took (count * picture_bytes cfg) bytes d.now)
+  pub no_fault : d.faults_now ≡ d.faults_before
 
 abbrev pub EndsGroup : Settings → ℕ → Drawn → Result GroupInput EncodeError → Type 0
 EndsGroup cfg before d (Ok input) = GroupIsRead cfg before input d
@@ -177,10 +182,15 @@ pub record PutsPartOfGroup (cfg : Settings) (first : Bool) (padded : List Pictur
   pub rises : Rises w.faults_before w.faults_now
   pub wrote : OfPadded padded (λ group. PutsPart w.old w.new (bytes_of_group cfg first group))
 
+-- nothing is, and no write failed
+pub record PutsNothing (w : Put) : Type 0 where
+  pub wrote : w.new ≡ w.old
+  pub no_fault : w.faults_now ≡ w.faults_before
+
 abbrev pub EndsWriting : Settings → Bool → List Picture → Put → Result ℕ EncodeError → Type 0
 EndsWriting cfg first padded w (Ok n) = PutsGroup cfg first padded n w
 EndsWriting cfg first padded w (Err ReadFault) = ⊥
 EndsWriting cfg first padded w (Err (ShortPicture have)) = ⊥
 EndsWriting cfg first padded w (Err WriteFault) = PutsPartOfGroup cfg first padded w
-EndsWriting cfg first padded w (Err NoMemory) = w.new ≡ w.old
+EndsWriting cfg first padded w (Err NoMemory) = PutsNothing w
 EndsWriting cfg first padded w (Err TooLong) = ⊥

@@ -4,7 +4,7 @@ use Rattle.hv_run.specs.declared.status.Status.TheVariants.{Ok, ReadFault, Short
 use Rattle.hv_serial.specs.Transfers.{drawn, put}
 use Rattle.hv_serial.proofs.EndLemmas.{start_no_memory}
 use Rattle.hv_words.proofs.AcceptanceLemmas.{accepted_built}
-use Rattle.hv_run.proofs.ConclusionLemmas.{concluded, asked_generator, refused_so, not_refused, refusal_told, no_memory_told, words_never, whole_case, groups_case, line_case, ok_line, part_of_line, complete_case}
+use Rattle.hv_run.proofs.ConclusionLemmas.{concluded, asked_generator, refused_so, not_refused, refusal_told, no_memory_told, words_never, whole_case, source_well, sink_well, groups_case, line_case, ok_line, part_of_line, complete_case}
 use Rattle.hv_run.specs.Input.{input_drawn}
 use Rattle.hv_run.proofs.InputLemmas.{source_rises, source_kept}
 use Rattle.hv_run.proofs.run.run_encode.Goals as goal
@@ -22,14 +22,14 @@ pub returns-in-Ok-clause-ok_written : goal.returns-in-Ok-clause-ok_written
 returns-in-Ok-clause-ok_written g c cfg bytes a told whole =
     (whole_case cfg _ _ _ _ (concluded _ cfg _ _ _ _ _ c.encode_input.result a c.in-Ok.ensures.ok c.encode_input.ensures.concludes refl) whole).encoded.wrote bytes told
 
-pub returns-in-Ok-clause-ok_source_faults : goal.returns-in-Ok-clause-ok_source_faults
-returns-in-Ok-clause-ok_source_faults g c whole =
+pub returns-in-Ok-clause-source_faults : goal.returns-in-Ok-clause-source_faults
+returns-in-Ok-clause-source_faults g c other =
     source_kept c.in-Ok.config _ _ (λ named. ap g.S.Source.faults (c.encode_input.ensures.untouched named))
-    (whole_case c.in-Ok.config _ _ _ c.encode_input.result c.encode_input.ensures.concludes whole).encoded.no_faults.reading
+    (source_well c.in-Ok.config _ _ _ c.encode_input.result c.encode_input.ensures.concludes other)
 
-pub returns-in-Ok-clause-ok_out_faults : goal.returns-in-Ok-clause-ok_out_faults
-returns-in-Ok-clause-ok_out_faults g c whole =
-    (whole_case c.in-Ok.config _ _ _ c.encode_input.result c.encode_input.ensures.concludes whole).encoded.no_faults.writing
+pub returns-in-Ok-clause-out_faults : goal.returns-in-Ok-clause-out_faults
+returns-in-Ok-clause-out_faults g c other =
+    sink_well c.in-Ok.config _ _ _ c.encode_input.result c.encode_input.ensures.concludes other
 
 pub returns-in-Ok-clause-ok_report : goal.returns-in-Ok-clause-ok_report
 returns-in-Ok-clause-ok_report g c cfg bytes a told is =
@@ -128,7 +128,8 @@ returns-then-is_want_of_memory-clause-generator_pictures g c cfg a =
 pub returns-then-is_want_of_memory-clause-some_written : goal.returns-then-is_want_of_memory-clause-some_written
 returns-then-is_want_of_memory-clause-some_written g c cfg bytes left a told told_left is =
     (start_no_memory cfg (accepted_built _ cfg a)
-    (input_drawn cfg (drawn g.S.Source.left g.S.Source.faults c.args.source.now c.args.source.now)) (put g.K.Sink.written g.K.Sink.faults c.args.out.now c.args.out.now) refl).wrote
+    (input_drawn cfg (drawn g.S.Source.left g.S.Source.faults c.args.source.now c.args.source.now)) (put g.K.Sink.written g.K.Sink.faults c.args.out.now c.args.out.now) refl
+    (record { reading = refl; writing = refl })).wrote
     bytes left told told_left
 
 pub returns-then-is_want_of_memory-clause-other_report : goal.returns-then-is_want_of_memory-clause-other_report

@@ -23,3 +23,4 @@ pub returns-in-Ok : goal.returns-in-Ok
 returns-in-Ok g c raw =
     picture_too_many _ _ _ c.in-Ok.field-0-test.1
     (omega (arith, c.in-Ok.ensures.most, c.fill.auto.buffer)) c.in-Ok.ensures.read
+    c.in-Ok.ensures.no_fault

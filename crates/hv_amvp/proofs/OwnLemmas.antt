@@ -12,7 +12,7 @@ use Rattle.hv_tree_model.specs.Sites.{Site, ctb_column, ctb_row, address_of, col
 use Rattle.hv_tree_model.specs.EarlierUnits.{Square, Unavailable}
 use Rattle.hv_tree_model.specs.Plans.{Plan, UnitsAround, square_or_none, square_around, is_in_picture, look_around}
 use Rattle.hv_unit_model.proofs.GeometryLemmas.{address_of_place}
-use Rattle.hv_syntax.specs.Squares.{Shows}
+use Rattle.hv_near.specs.Squares.{Shows}
 use Rattle.hv_inter_model.specs.UnitVectors.{unit_with_vector}
 use Rattle.hv_vector_model.specs.Vectors.{plan_with_vectors, neighbourhood_of}
 use Rattle.hv_amvp.specs.Own.{square_with_vector, own_squares}

@@ -3,8 +3,8 @@
 ghost use Rattle.std.specs.Prelude.{◌≡◌, ◌<◌, ◌≤◌, List};
 ghost use Rattle.hv_tree_model.specs.EarlierUnits.{Square};
 ghost use Rattle.hv_tree_model.specs.Plans.{look_around};
-ghost use Rattle.hv_syntax.specs.Neighbours.{lists_of_plan, around_of};
-ghost use Rattle.hv_syntax.specs.Squares.{Shows};
+ghost use Rattle.hv_near.specs.Neighbours.{lists_of_plan, around_of};
+ghost use Rattle.hv_near.specs.Squares.{Shows};
 ghost use Rattle.hv_vector_model.specs.VectorPrediction.{mvpListL0};
 ghost use Rattle.hv_vector_model.specs.Vectors.{neighbourhood_of, plan_with_vectors, around_with_vectors};
 ghost use Rattle.hv_amvp.specs.Entries.{entries};

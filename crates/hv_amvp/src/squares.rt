@@ -4,14 +4,14 @@ ghost use Rattle.std.specs.Prelude.{◌≡◌, ◌+◌, ◌*◌, ◌<◌, ◌≤
 ghost use Rattle.hv_tree_model.specs.Sites.{ctb_column, ctb_row};
 ghost use Rattle.hv_tree_model.specs.EarlierUnits.{Unavailable};
 ghost use Rattle.hv_tree_model.specs.Plans.{coded_square, square_or_none, on_right, on_bottom, square_at_left, square_above, square_inside, square_around, is_in_picture, look_around};
-ghost use Rattle.hv_syntax.specs.Neighbours.{unit_edges, around_of};
+ghost use Rattle.hv_near.specs.Neighbours.{unit_edges, around_of};
 ghost use Rattle.hv_inter_model.specs.UnitVectors.{unit_with_vector};
 ghost use Rattle.hv_vector_model.specs.Vectors.{moving_of, neighbourhood_of, edges_with_vectors, around_with_vectors};
 ghost use Rattle.hv_amvp.specs.Own.{own_squares};
 
 use hv_block::{Edges, Neighbours};
+use hv_near::{address_of, column_of, row_of};
 use hv_plan::{Place, Pred, Unit};
-use hv_syntax::{address_of, column_of, row_of};
 use hv_vector_model::{Moving, Neighbourhood};
 
 /// How a unit moves.

@@ -37,7 +37,9 @@ pub record AreSums (count : ℕ) (taps : List ℤ) (samples : List ℕ) (place :
   pub eight : length lanes ≡ 8
   pub each : (j : ℕ) → j < 8 → lane lanes j ≡ placed_sum_of count taps samples (place j)
 
--- eight lanes are the sums of the first taps times numbers with a sign, from place `at` and the next seven on
-pub record AreTotals (count : ℕ) (taps numbers : List ℤ) (at step : ℕ) (lanes : List ℤ) : Type 0 where
+-- eight lanes are the sums of the first taps times numbers with a sign, from place `at` and the
+-- next seven on
+pub record AreTotals (count : ℕ) (taps numbers : List ℤ) (at step : ℕ) (lanes : List ℤ) :
+    Type 0 where
   pub eight : length lanes ≡ 8
   pub each : (j : ℕ) → j < 8 → lane lanes j ≡ strided_total_of count taps numbers (at + j) step

@@ -16,8 +16,8 @@ use Rattle.hv_recon.specs.Leaves.{DecodesLeaf, KeepsOtherSamples, IsKnown, leaf_
 use Rattle.hv_recon.specs.DecodedNodes.{node_of_plan, is_whole, IsNodeOfBlock}
 use Rattle.hv_recon.proofs.NodeLemmas.{leaf_node, leaf_as_node}
 use Rattle.hv_syntax.specs.Blocks.{ends}
-use Rattle.hv_syntax.specs.Neighbours.{lists_of_plan}
-use Rattle.hv_syntax.specs.Squares.{NamesNode}
+use Rattle.hv_near.specs.Neighbours.{lists_of_plan}
+use Rattle.hv_near.specs.Squares.{NamesNode}
 use Rattle.hv_syntax.proofs.NamingLemmas.{names_leaf}
 use Rattle.hv_mode.specs.declared.task.Task.{Task}
 use Rattle.hv_mode.specs.Nodes.{SameBefore, Decides, blank_choice}

@@ -9,8 +9,8 @@ use Rattle.hv_block.specs.Samples.{Samples}
 use Rattle.hv_tree_model.specs.Trees.{greatest_size}
 use Rattle.hv_tree_model.specs.Sites.{Site}
 use Rattle.hv_tree_model.specs.Plans.{Plan, tree_of}
-use Rattle.hv_syntax.specs.Neighbours.{lists_of_plan}
-use Rattle.hv_syntax.specs.Squares.{Shows}
+use Rattle.hv_near.specs.Neighbours.{lists_of_plan}
+use Rattle.hv_near.specs.Squares.{Shows}
 use Rattle.hv_recon_model.specs.Reconstruction.{Component, Decoded}
 use Rattle.hv_recon_model.specs.SeenSamples.{Spot, SamplesAround, IsSeen, luma_spot, chroma_spot, comes_before, by_rows, sample_inside, sample_at_left, sample_above, is_in_picture, look_around}
 use Rattle.hv_recon.specs.Leaves.{AreSeen, luma_around, cb_around, cr_around}

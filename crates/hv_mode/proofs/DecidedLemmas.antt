@@ -7,8 +7,8 @@ use Rattle.hv_tree_model.specs.Trees.{Outside, side}
 use Rattle.hv_tree_model.specs.Sites.{Site, x0, y0, squares, is_outside, must_split}
 use Rattle.hv_tree_model.specs.EarlierUnits.{squares_of}
 use Rattle.hv_unit_model.proofs.GeometryLemmas.{square_of_node}
-use Rattle.hv_syntax.specs.Neighbours.{lists_of_plan}
-use Rattle.hv_syntax.specs.Squares.{Shows, NamesNode}
+use Rattle.hv_near.specs.Neighbours.{lists_of_plan}
+use Rattle.hv_near.specs.Squares.{Shows, NamesNode}
 use Rattle.hv_syntax.proofs.NamingLemmas.{names_outside}
 use Rattle.hv_recon.specs.DecodedNodes.{node_of_plan, IsNodeOfBlock}
 use Rattle.hv_recon.proofs.NodeLemmas.{outside_node, outside_decodes_nothing}

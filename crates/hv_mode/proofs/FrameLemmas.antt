@@ -10,8 +10,8 @@ use Rattle.hv_tree_model.specs.Sites.{squares}
 use Rattle.hv_tree_model.specs.Plans.{part, square_or_none}
 use Rattle.hv_recon_model.specs.Reconstruction.{Component}
 use Rattle.hv_recon_model.specs.SeenSamples.{Spot, SamplesAround, IsSeen, by_rows, comes_before, is_in_picture, sample_at_left, sample_above, sample_around, look_around}
-use Rattle.hv_syntax.specs.Neighbours.{lists_of_plan}
-use Rattle.hv_syntax.specs.Squares.{own_square}
+use Rattle.hv_near.specs.Neighbours.{lists_of_plan}
+use Rattle.hv_near.specs.Squares.{own_square}
 use Rattle.hv_mode_model.specs.ModeDecision.{Before}
 use Rattle.hv_mode.specs.declared.task.Task.{Task}
 use Rattle.hv_mode.specs.Nodes.{Stands, SameSamples, SameBefore, Decides, SameInNode, CopiesNode}

@@ -15,7 +15,7 @@ use Rattle.hv_tree_model.specs.Trees.{Intra, TransformUnit, Tree, Leaf, side, de
 use Rattle.hv_tree_model.specs.Sites.{Site, squares, is_outside}
 use Rattle.hv_tree_model.specs.EarlierUnits.{Square, Unavailable, Coded, squares_of}
 use Rattle.hv_tree_model.specs.Plans.{leaf_at, leaf_of, transform_units_at, square_or_none}
-use Rattle.hv_syntax.specs.Squares.{Shows, NamesNode, own_square}
+use Rattle.hv_near.specs.Squares.{Shows, NamesNode, own_square}
 use Rattle.hv_recon.specs.CodedLeaves.{IsLeafCoded, IsLeafSet}
 use Rattle.hv_recon.specs.DecodedNodes.{IsNodeOfBlock, is_whole, node_of_plan}
 use Rattle.hv_recon.specs.Leaves.{AreSeen, lists_of_plan, DecodesLeaf, KeepsOtherSamples}

@@ -5,7 +5,7 @@ use Rattle.hv_tree_model.specs.Sites.{Site, squares}
 use Rattle.hv_tree_model.specs.EarlierUnits.{Square, Surroundings}
 use Rattle.hv_tree_model.specs.Plans.{Plan, tree_at}
 use Rattle.hv_unit_model.specs.Bins.{bins_of_node}
-use Rattle.hv_syntax.specs.Squares.{Shows, NamesNode}
+use Rattle.hv_near.specs.Squares.{Shows, NamesNode}
 use Rattle.hv_recon.specs.DecodedNodes.{IsNodeOfBlock}
 use Rattle.hv_filter_model.specs.Costs.{cost}
 use Rattle.hv_mode_model.specs.ModeDecision.{Given, Before, decoded_behind, node_square, squared_errors, coded_node, cost_of}

@@ -15,9 +15,9 @@ use Rattle.hv_recon_model.specs.Reconstruction.{Decoded}
 use Rattle.hv_recon.specs.Leaves.{AreSeen}
 use Rattle.hv_recon.specs.DecodedNodes.{node_of_plan, IsNodeOfBlock, DecodesNode}
 use Rattle.hv_recon.proofs.NodeLemmas.{split_node}
-use Rattle.hv_syntax.specs.Neighbours.{lists_of_plan}
+use Rattle.hv_near.specs.Neighbours.{lists_of_plan}
 use Rattle.hv_syntax.specs.Blocks.{ends}
-use Rattle.hv_syntax.specs.Squares.{Shows, NamesNode}
+use Rattle.hv_near.specs.Squares.{Shows, NamesNode}
 use Rattle.hv_syntax.proofs.NodeLemmas.{shows_more}
 use Rattle.hv_syntax.proofs.NamingLemmas.{depth_of_names, names_by_parts}
 use Rattle.hv_mode_model.specs.ModeDecision.{Before, or_else, decoded_behind}

@@ -17,7 +17,7 @@ use Rattle.hv_tree_model.specs.EarlierUnits.{Square, squares_of, after}
 use Rattle.hv_tree_model.specs.Plans.{Plan, IsPlan, NamesItsUnits, tree_of}
 use Rattle.hv_unit_model.specs.PlanLaws.{ArePlansBefore, LieAround, squares_of_plans}
 use Rattle.hv_unit_model.proofs.AroundLemmas.{plans_are_appended}
-use Rattle.hv_syntax.specs.Neighbours.{lists_of_plan, around_of}
+use Rattle.hv_near.specs.Neighbours.{lists_of_plan, around_of}
 use Rattle.hv_syntax.proofs.PictureLemmas.{got_in_front, take_with, lies_around}
 use Rattle.hv_recon_model.specs.Reconstruction.{Decoded, nothing_decoded, decoded_tree}
 use Rattle.hv_recon_model.proofs.BesideLemmas.{tree_beside}

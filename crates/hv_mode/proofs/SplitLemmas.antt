@@ -10,8 +10,8 @@ use Rattle.hv_tree_model.specs.Sites.{x0, y0, squares, is_outside}
 use Rattle.hv_tree_model.specs.EarlierUnits.{Square, squares_of}
 use Rattle.hv_tree_model.specs.Plans.{is_leaf}
 use Rattle.hv_tree_model.proofs.NodeLemmas.{child_of}
-use Rattle.hv_syntax.specs.Neighbours.{lists_of_plan}
-use Rattle.hv_syntax.specs.Squares.{Shows, NamesNode}
+use Rattle.hv_near.specs.Neighbours.{lists_of_plan}
+use Rattle.hv_near.specs.Squares.{Shows, NamesNode}
 use Rattle.hv_recon_model.specs.Reconstruction.{Decoded, decoded_tree}
 use Rattle.hv_recon.specs.Leaves.{AreSeen}
 use Rattle.hv_recon.specs.DecodedNodes.{node_of_plan, DecodesNode, IsNodeOfBlock}

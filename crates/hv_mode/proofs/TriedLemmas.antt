@@ -6,8 +6,8 @@ use Rattle.hv_lemmas.proofs.ComparisonLemmas.{lt_below, lt_not_below}
 use Rattle.hv_block.specs.declared.block.Block.{Block}
 use Rattle.hv_tree_model.specs.Trees.{Tree}
 use Rattle.hv_tree_model.specs.Sites.{squares}
-use Rattle.hv_syntax.specs.Neighbours.{lists_of_plan}
-use Rattle.hv_syntax.specs.Squares.{Shows}
+use Rattle.hv_near.specs.Neighbours.{lists_of_plan}
+use Rattle.hv_near.specs.Squares.{Shows}
 use Rattle.hv_recon.specs.Leaves.{AreSeen}
 use Rattle.hv_recon.specs.DecodedNodes.{node_of_plan}
 use Rattle.hv_filter_model.specs.Costs.{cheaper}

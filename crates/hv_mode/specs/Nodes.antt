@@ -6,8 +6,8 @@ use Rattle.hv_tree_model.specs.Trees.{Tree, Leaf, Intra, no_units}
 use Rattle.hv_tree_model.specs.Sites.{squares}
 use Rattle.hv_tree_model.specs.MostProbableModes.{dc}
 use Rattle.hv_tree_model.specs.Plans.{part, in_block}
-use Rattle.hv_syntax.specs.Neighbours.{lists_of_plan, around_of}
-use Rattle.hv_syntax.specs.Squares.{Shows, NamesNode}
+use Rattle.hv_near.specs.Neighbours.{lists_of_plan, around_of}
+use Rattle.hv_near.specs.Squares.{Shows, NamesNode}
 use Rattle.hv_recon_model.specs.SeenSamples.{by_rows, comes_before}
 use Rattle.hv_recon.specs.Leaves.{AreSeen}
 use Rattle.hv_recon.specs.DecodedNodes.{node_of_plan}

@@ -8,7 +8,7 @@ use Rattle.hv_block.specs.Samples.{Samples, AreWholeSamples}
 use Rattle.hv_tree_model.specs.Trees.{greatest_size}
 use Rattle.hv_tree_model.specs.Sites.{Site, site}
 use Rattle.hv_tree_model.specs.Plans.{Plan, IsPlan, NamesItsUnits, tree_of, in_block}
-use Rattle.hv_syntax.specs.Neighbours.{lists_of_plan, around_of}
+use Rattle.hv_near.specs.Neighbours.{lists_of_plan, around_of}
 use Rattle.hv_recon_model.specs.Reconstruction.{Decoded}
 use Rattle.hv_recon.specs.Leaves.{AreSeen}
 use Rattle.hv_mode_model.specs.ModeDecision.{Given, Before, Task, nothing_found, decoded_behind, best}
@@ -76,7 +76,8 @@ pub record IsChosen (t : Task) (here : Site) (near : Neighbours) (block : Block)
 -- the block of this number is written
 abbrev pub DecidesBlock : Task → Site → List Block → List Block → Type 0
 DecidesBlock t here old new =
-    (block : Block) × (new ≡ set old here.index block) × IsChosen t here (neighbours_of old here) block
+    (block : Block) × (new ≡ set old here.index block) ×
+    IsChosen t here (neighbours_of old here) block
 
 -- so many of a picture are written, from the first on
 abbrev pub AreChosen : Task → ℕ → ℕ → ℕ → List Block → Type 0

@@ -7,8 +7,8 @@ ghost use Rattle.hv_mode.specs.Nodes.{CopiesNode};
 ghost use Rattle.hv_mode.specs.Copies.{CopiesSquare, CopiesSamples};
 
 use hv_block::{Block, Samples};
+use hv_near::{column_of, row_of};
 use hv_recon::put_row;
-use hv_syntax::{column_of, row_of};
 
 /// The side of a square of 2^log2 columns and rows.
 fn side_of(log2: u8) -> usize

@@ -5,8 +5,8 @@ ghost use Rattle.hv_tree_model.specs.Trees.{Tree, side};
 ghost use Rattle.hv_tree_model.specs.Sites.{squares, x0, y0};
 ghost use Rattle.hv_tree_model.specs.EarlierUnits.{Square};
 ghost use Rattle.hv_unit_model.specs.Bins.{bins_of_node};
-ghost use Rattle.hv_syntax.specs.Neighbours.{lists_of_plan};
-ghost use Rattle.hv_syntax.specs.Squares.{Shows, NamesNode};
+ghost use Rattle.hv_near.specs.Neighbours.{lists_of_plan};
+ghost use Rattle.hv_near.specs.Squares.{Shows, NamesNode};
 ghost use Rattle.hv_recon.specs.Leaves.{AreSeen};
 ghost use Rattle.hv_recon.specs.DecodedNodes.{node_of_plan, IsNodeOfBlock};
 ghost use Rattle.hv_mode_model.specs.ModeDecision.{Before, decoded_behind, coded_node, cost_of};
@@ -16,8 +16,9 @@ use crate::errors::node_errors;
 use crate::task::Task;
 use hv_block::Block;
 use hv_kernel::cost;
+use hv_near::{column_of, row_of};
 use hv_plan::Node;
-use hv_syntax::{column_of, count_node, row_of};
+use hv_syntax::count_node;
 
 /// How many bins a node of a block has, by its plan (7.3.8.4).
 fn node_bins(task: &Task<'_>, size: u8, address: u8, block: &Block) -> u64
@@ -44,9 +45,10 @@ fn node_bins(task: &Task<'_>, size: u8, address: u8, block: &Block) -> u64
     )
 }
 
-/// The cost of a node, by the plan and the samples of a block: that of the tree of which the plan has
-/// what is coded, behind whatever stands before the node, where what is decoded behind the tree is
-/// seen in the samples. The node lies in the picture, and its units name the squares of its tree.
+/// The cost of a node, by the plan and the samples of a block: that of the tree of which the plan
+/// has what is coded, behind whatever stands before the node, where what is decoded behind the tree
+/// is seen in the samples. The node lies in the picture, and its units name the squares of its
+/// tree.
 pub(crate) fn cost_node(task: &Task<'_>, size: u8, address: u8, block: &Block) -> u64
     requires node { IsNodeOfBlock size address }
     requires right { x0 task.now.place address + side size ≤ task.now.place.width }

@@ -33,7 +33,7 @@ fn block(alloc: Global) -> Result<Block, NoMemory> {
 
 /// The squared differences of the first node of 8x8, and its cost at quantiser 30, where its
 /// units name its squares.
-#[tactic(auto, unfolding(hv_tree_model::specs::Sites::address_of, hv_tree_model::specs::Sites::column_of, hv_tree_model::specs::Sites::row_of,))]
+#[tactic(auto, unfolding(hv_tree_model::specs::Sites::address_of, hv_tree_model::specs::Sites::column_of, hv_tree_model::specs::Sites::row_of))]
 fn measured(input: &Picture, block: &Block) -> Option<(u64, u64)>
     requires { IsPicture 8 8 input.now }
 {

@@ -7,7 +7,7 @@ ghost use Rattle.hv_tree_model.specs.Plans.{tree_of, NamesItsUnits};
 ghost use Rattle.hv_recon_model.specs.Reconstruction.{Decoded};
 ghost use Rattle.hv_recon.specs.Leaves.{AreSeen};
 ghost use Rattle.hv_recon.specs.DecodedNodes.{DecodesBlock};
-ghost use Rattle.hv_syntax.specs.Neighbours.{lists_of_plan};
+ghost use Rattle.hv_near.specs.Neighbours.{lists_of_plan};
 ghost use Rattle.hv_mode_model.specs.ModeDecision.{best};
 ghost use Rattle.hv_mode.specs.Nodes.{given_of, Decides};
 
@@ -50,8 +50,8 @@ pub fn decide_ctb(task: &Task<'_>, room: &mut Room, out: &mut Block)
         tree_of task.now.place (lists_of_plan out.new.plan) ≡
         best (given_of task.now) greatest_size 0 record { decoded = d; earlier = [] } }
     ensures names { NamesItsUnits task.now.place (lists_of_plan out.new.plan) }
-    ensures decodes { DecodesBlock (lists_of_plan out.new.plan) task.now.place task.now.qp [] task.now.near.now
-        out.new.samples }
+    ensures decodes { DecodesBlock (lists_of_plan out.new.plan) task.now.place task.now.qp []
+        task.now.near.now out.new.samples }
 {
     decide_node(task, &mut room.blocks, 3, 0, out);
 }

@@ -15,8 +15,8 @@ use crate::square::{NodeSquares, Square};
 use crate::task::Task;
 use hv_block::Samples;
 use hv_kernel::{Pair, ssd_block_4, ssd_block_8, ssd_block_16, ssd_block_32, ssd_block_64};
+use hv_near::{column_of, row_of};
 use hv_plan::Place;
-use hv_syntax::{column_of, row_of};
 use hv_types::{Plane, Window};
 
 /// The side of a square.

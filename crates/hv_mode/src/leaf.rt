@@ -9,8 +9,8 @@ ghost use Rattle.hv_tree_model.specs.Sites.{column_of, row_of, x0, y0, is_outsid
 ghost use Rattle.hv_tree_model.specs.EarlierUnits.{Square};
 ghost use Rattle.hv_tree_model.specs.MostProbableModes.{candidates};
 ghost use Rattle.hv_tree_model.specs.Plans.{in_block};
-ghost use Rattle.hv_syntax.specs.Neighbours.{lists_of_plan, around_of};
-ghost use Rattle.hv_syntax.specs.Squares.{Shows};
+ghost use Rattle.hv_near.specs.Neighbours.{lists_of_plan, around_of};
+ghost use Rattle.hv_near.specs.Squares.{Shows};
 ghost use Rattle.hv_recon_model.specs.SeenSamples.{luma_spot, seen_line};
 ghost use Rattle.hv_recon.specs.Coding.{input_block};
 ghost use Rattle.hv_recon.specs.DecodedNodes.{IsNodeOfBlock};

@@ -15,8 +15,8 @@ use crate::cost::cost_node;
 use crate::leaf::decide_leaf;
 use crate::task::Task;
 use hv_block::Block;
+use hv_near::{Site, crosses, is_outside, squares};
 use hv_plan::Place;
-use hv_syntax::{Site, crosses, is_outside, squares};
 
 /// Whether a node begins outside the picture.
 fn begins_outside(place: Place, address: u8) -> bool

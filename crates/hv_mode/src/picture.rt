@@ -4,7 +4,7 @@ ghost use Rattle.std.specs.Prelude.{◌≡◌, ◌*◌, ◌<◌, [], length};
 ghost use Rattle.hv_block.specs.Samples.{AreWholeSamples};
 ghost use Rattle.hv_tree_model.specs.Sites.{site, sites, blocks_over};
 ghost use Rattle.hv_tree_model.specs.Plans.{IsPlan};
-ghost use Rattle.hv_syntax.specs.Neighbours.{lists_of_plan};
+ghost use Rattle.hv_near.specs.Neighbours.{lists_of_plan};
 ghost use Rattle.hv_recon_model.specs.Reconstruction.{nothing_decoded};
 ghost use Rattle.hv_recon.specs.DecodedBlocks.{trees_of, AreOfBlocks};
 ghost use Rattle.hv_mode_model.specs.ModeDecision.{best_trees, best_decoded};

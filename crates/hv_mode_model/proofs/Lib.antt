@@ -1,7 +1,7 @@
 pub mod ChosenDecodedLemmas
 pub mod DifferenceLemmas
 pub mod IntraAloneLemmas
-mod NeighbourLemmas
+pub mod NeighbourLemmas
 pub mod ReferenceLemmas
 pub mod SeenChoiceLemmas
 pub mod ValidChoiceLemmas

@@ -1,5 +1,6 @@
 -- The settings that the encoder is built for so far: any size, any effort where each picture is a
--- group of its own, and groups of any size with any levels at the effort at which nothing is chosen.
+-- group of its own, and groups of any size with any levels at the effort at which nothing is
+-- chosen.
 use Rattle.std.specs.Prelude.{◌≡◌, ◌⊎◌, Bool, ◌||◌, nat_eq}
 use Rattle.std.specs.Bool.{Decides}
 use Rattle.hv_types.specs.declared.settings.Settings.{Settings}

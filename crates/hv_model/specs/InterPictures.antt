@@ -1,6 +1,6 @@
--- The one-thread encoder where coding units are predicted from other pictures too: what a picture is
--- coded as, behind the pictures of its group that were coded before it, the picture that a decoder
--- shows of it, and the stream of a video.
+-- The one-thread encoder where coding units are predicted from other pictures too: what a picture
+-- is coded as, behind the pictures of its group that were coded before it, the picture that a
+-- decoder shows of it, and the stream of a video.
 use Rattle.std.specs.Prelude.{ℕ, zero, suc, List, [], ◌∷◌, ◌++◌, length, map, flat_map}
 use Rattle.hv_types.specs.declared.settings.Settings.{Settings}
 use Rattle.hv_types.specs.declared.settings.Emit.{Emit}

@@ -16,7 +16,7 @@ use Rattle.hv_tree_model.specs.Sites.{site, sites, is_outside, crosses, column_o
 use Rattle.hv_tree_model.specs.EarlierUnits.{Unavailable, squares_of}
 use Rattle.hv_tree_model.specs.Validity.{AreValid}
 use Rattle.hv_tree_model.specs.Plans.{Plan, tree_at, tree_of, coded_square, square_or_none, NamesItsUnits}
-use Rattle.hv_syntax.specs.Neighbours.{lists_of_plan}
+use Rattle.hv_near.specs.Neighbours.{lists_of_plan}
 use Rattle.hv_slice_model.specs.BlankUnits.{no_offsets, blank_node, blank_units}
 use Rattle.hv_slice_model.specs.Slices.{picture_sites}
 use Rattle.hv_slice_model.specs.PlannedUnits.{planned_units, NameTheirUnits}

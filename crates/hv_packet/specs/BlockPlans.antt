@@ -5,7 +5,7 @@ use Rattle.hv_plan.specs.declared.offsets.SaoParam.{SaoParam}
 use Rattle.hv_block.specs.declared.block.Block.{Block}
 use Rattle.hv_tree_model.specs.Trees.{CodingTreeUnit}
 use Rattle.hv_tree_model.specs.Plans.{Plan, IsPlan}
-use Rattle.hv_syntax.specs.Neighbours.{lists_of_plan}
+use Rattle.hv_near.specs.Neighbours.{lists_of_plan}
 use Rattle.hv_slice_model.specs.Slices.{picture_sites}
 use Rattle.hv_slice_model.specs.PlannedUnits.{planned_units}
 

@@ -24,8 +24,8 @@ const CTB_SIDE: u32 = 64;
 /// The size of a node that is a whole coding tree block. A node's side is 8 << size luma samples.
 const CTB_SIZE: u8 = 3;
 
-/// The slice data (7.3.8.1) of a picture in which nothing is chosen, as a code word with zeros to the
-/// byte.
+/// The slice data (7.3.8.1) of a picture in which nothing is chosen, as a code word with zeros to
+/// the byte.
 pub fn blank_data(alloc: Global, slice: Slice) -> Result<Vec<u8>, NoMemory>
     ensures { IfOk result (λ bytes. bytes.items ≡ bytes_of (word slice.kind slice.qp
         (slice_bins slice.kind slice.references (sites slice.width slice.height)

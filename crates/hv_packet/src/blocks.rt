@@ -10,7 +10,7 @@ ghost use Rattle.hv_unit_model.specs.Bins.{bins, slice_bins};
 ghost use Rattle.hv_tree_model.specs.EarlierUnits.{in_picture};
 ghost use Rattle.hv_tree_model.specs.Plans.{IsPlan, tree_of};
 ghost use Rattle.hv_unit_model.specs.PlanLaws.{squares_before};
-ghost use Rattle.hv_syntax.specs.Neighbours.{lists_of_plan};
+ghost use Rattle.hv_near.specs.Neighbours.{lists_of_plan};
 ghost use Rattle.hv_slice_model.specs.PlannedUnits.{planned_units, NameTheirUnits};
 ghost use Rattle.hv_packet.specs.BlockPlans.{plan_of, plans_of, AreWhole};
 

@@ -70,7 +70,8 @@ pub fn code_picture<B: Blocks>(
     requires offsets { length sao.now ≡ length (picture_sites group.now.input.config) }
     requires names { NameTheirUnits (padded_width group.now.input.config)
         (padded_height group.now.input.config) (plans_of (B.blocks blocks.now)) }
-    requires valid { let header = header_in group.now.input.config (length group.now.input.pictures) picture in
+    requires valid { let header = header_in group.now.input.config
+        (length group.now.input.pictures) picture in
         AreValid header.slice_type (used_count header.references)
         (picture_sites group.now.input.config)
         (units_in group.now.input.config (B.blocks blocks.now) sao.now) }

@@ -45,8 +45,10 @@ fn difference(sample: u8, predicted: u8) -> i16
     i16::from(sample) - i16::from(predicted)
 }
 
-/// Samples minus their prediction, one by one.
-fn subtract(samples: &[u8], predicted: &[u8], out: &mut [i16])
+/// Samples minus their prediction, one by one, into `out`: the residual of a block. There are as
+/// many predicted samples, and as many numbers in `out`, as samples. It takes no memory and always
+/// answers.
+pub fn subtract(samples: &[u8], predicted: &[u8], out: &mut [i16])
     requires even { length predicted.now ≡ length samples.now }
     requires room { length out.old ≡ length samples.now }
     ensures value { out.new ≡ differences samples.now predicted.now }

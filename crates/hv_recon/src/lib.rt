@@ -19,7 +19,7 @@ mod transform_block;
 mod unit;
 mod view;
 
-pub use coded_block::read_block;
+pub use coded_block::{read_block, subtract};
 pub use coded_leaf::code_leaf;
 pub use coded_unit::{luma_line, read_luma};
 pub use leaf::rebuild_leaf;

@@ -232,8 +232,8 @@ pub fn row_of(address: u8) -> usize
     usize::from(address / 2 % 2 + 2 * (address / 8 % 2) + 4 * (address / 32 % 2))
 }
 
-/// Rebuilds a transform unit (7.3.8.10, 8.4.4.1): its three blocks, each from the samples of its own
-/// component.
+/// Rebuilds a transform unit (7.3.8.10, 8.4.4.1): its three blocks, each from the samples of its
+/// own component.
 pub fn rebuild_unit(plan: &CtbPlan, place: Place, near: &Neighbours, unit: Unit, out: &mut Samples)
     requires { 0 < place.width }
     ensures { IsUnitPut plan.now place near.now unit.size unit.address unit.mode unit.qp out.old

@@ -31,8 +31,8 @@ pub fn encode_steady<K: Sink, P: Sink, G: Gate, R: Threads + Wait + Sync>(
 }
 
 /// The top call from memory to memory: at `Ok` the source is empty, unless a generator is named;
-/// the output of the pictures, the source's or the generator's, stands behind what the sink had, and
-/// their line behind what the report had.
+/// the output of the pictures, the source's or the generator's, stands behind what the sink had,
+/// and their line behind what the report had.
 pub fn encode_in_memory<G: Gate, R: Threads + Wait + Sync>(
     rt: &R,
     alloc: Global,

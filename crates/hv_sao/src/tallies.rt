@@ -18,7 +18,8 @@ fn add_row_of_values(block: Block<'_>, y: u32, tallies: &mut [Tally])
     requires down { y < block.area.rows }
     requires room { length tallies.old ≡ 256 }
     requires few { AreAtMost 256 (64 * y) tallies.old }
-    ensures added { let b = block_of block.entry.deblocked.now block.entry.input.now block.entry.area in
+    ensures added { let b = block_of block.entry.deblocked.now block.entry.input.now
+        block.entry.area in
         Adds 256 (value_key b) (difference b) (row_locations b.area y b.area.columns)
         tallies.old tallies.new }
     ensures few { AreAtMost 256 (64 * (y + 1)) tallies.new }
@@ -118,7 +119,8 @@ fn add_row_of_edges(block: Block<'_>, class: u8, y: u32, tallies: &mut [Tally])
     requires down { y < block.area.rows }
     requires room { length tallies.old ≡ 33 }
     requires few { AreAtMost 33 (64 * y) tallies.old }
-    ensures added { let b = block_of block.entry.deblocked.now block.entry.input.now block.entry.area in
+    ensures added { let b = block_of block.entry.deblocked.now block.entry.input.now
+        block.entry.area in
         Adds 32 (edge_key_at class b) (difference b) (row_locations b.area y b.area.columns)
         tallies.old tallies.new }
     ensures few { AreAtMost 33 (64 * (y + 1)) tallies.new }

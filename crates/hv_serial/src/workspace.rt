@@ -19,8 +19,8 @@ pub struct PictureSpace {
     pub frame: Frame,
 }
 
-/// What the encoding of groups works in. It is made once a run, for its settings, and what stands in
-/// it doesn't matter to the next group.
+/// What the encoding of groups works in. It is made once a run, for its settings, and what stands
+/// in it doesn't matter to the next group.
 #[derive(Drop)]
 pub enum Workspace {
     /// Where nothing is chosen: it has no memory.

@@ -14,8 +14,8 @@ pub(crate) struct Sides {
     pub(crate) shown_height: u32,
 }
 
-/// What is read of a slice's header: its quantiser (`SliceQpY`), and at which byte of the payload its
-/// data begins.
+/// What is read of a slice's header: its quantiser (`SliceQpY`), and at which byte of the payload
+/// its data begins.
 #[derive(Clone, Copy)]
 pub(crate) struct Header {
     pub(crate) qp: u8,

@@ -8,10 +8,10 @@ use crate::memory::enough;
 use crate::tally::Leaves;
 use anyhow::bail;
 use hv_block::{Block, Edges, Neighbours};
+use hv_near::{column_of, row_of};
 use hv_plain_units::{CodedBlock, Slice, block_of, neighbours};
 use hv_plan::{Place, Pred};
 use hv_recon::rebuild_leaf;
-use hv_syntax::{column_of, row_of};
 use std::alloc::Global;
 
 /// The blocks of a picture, from what is coded of them, with their samples (8.4, 8.6).

@@ -42,5 +42,9 @@ blank_tree site = blank_node site greatest_size 0
 abbrev pub blank_units : List Site → List CodingTreeUnit
 blank_units [] = []
 blank_units (site ∷ sites) =
-    record { sao = no_offsets; tree = blank_tree site; end_of_slice_segment_flag = is_empty sites } ∷
+    record {
+      sao = no_offsets;
+      tree = blank_tree site;
+      end_of_slice_segment_flag = is_empty sites;
+    } ∷
     blank_units sites

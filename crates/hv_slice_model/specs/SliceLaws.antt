@@ -1,5 +1,5 @@
--- How a slice and its data end, which contexts the data asks for, and that units in which nothing is
--- chosen may be coded.
+-- How a slice and its data end, which contexts the data asks for, and that units in which nothing
+-- is chosen may be coded.
 use Rattle.std.specs.Prelude.{◌≢◌, ℕ, List, []}
 use Rattle.hv_tables.specs.declared.bins.SliceKind.{SliceKind}
 use Rattle.hv_stream_model.specs.Units.{last_of}

@@ -21,8 +21,8 @@ pub fn slices_end()
     ensures { SlicesEnd }
 {}
 
-/// Units in which nothing is chosen may be coded in any coding tree blocks, in slices of both kinds:
-/// each block has one, and the last one, and no other, ends the slice.
+/// Units in which nothing is chosen may be coded in any coding tree blocks, in slices of both
+/// kinds: each block has one, and the last one, and no other, ends the slice.
 pub fn blank_units_are_valid()
     ensures { BlankUnitsAreValid }
 {}

@@ -5,9 +5,9 @@ ghost use Rattle.std.specs.Prelude.{◌≡◌, ◌<◌, ◌≤◌};
 use crate::levels::sum_of;
 use anyhow::bail;
 use hv_block::{Block, Edges, Neighbours};
+use hv_near::{column_of, row_of};
 use hv_plan::{Place, Pred, Unit};
 use hv_recon::rebuild_leaf;
-use hv_syntax::{column_of, row_of};
 use std::alloc::Global;
 
 /// A round has so many calls.

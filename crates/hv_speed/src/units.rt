@@ -3,8 +3,8 @@
 ghost use Rattle.std.specs.Prelude.{◌≡◌, ◌+◌, ◌-◌, ◌<◌, ◌≤◌};
 ghost use Rattle.hv_tree_model.specs.Sites.{address_of, squares};
 ghost use Rattle.hv_tree_model.specs.Plans.{NamesItsUnits};
-ghost use Rattle.hv_syntax.specs.Neighbours.{lists_of_plan};
-ghost use Rattle.hv_syntax.specs.Squares.{NamesNode};
+ghost use Rattle.hv_near.specs.Neighbours.{lists_of_plan};
+ghost use Rattle.hv_near.specs.Squares.{NamesNode};
 
 use crate::levels::sum_of;
 use anyhow::bail;

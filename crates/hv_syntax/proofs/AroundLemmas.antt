@@ -11,7 +11,7 @@ use Rattle.hv_tree_model.specs.Plans.{Plan, UnitsAround, on_right, on_bottom, is
 use Rattle.hv_unit_model.proofs.GeometryLemmas.{place_of_address, address_of_place}
 use Rattle.hv_syntax.specs.declared.block.Block.{Block}
 use Rattle.hv_syntax.specs.Blocks.{plan_of, place_of, seen_left, seen_above, AreBeside, Sees}
-use Rattle.hv_syntax.specs.Squares.{own_square, Shows}
+use Rattle.hv_near.specs.Squares.{own_square, Shows}
 
 -- ---- where a square is
 pub record Inside (site : Site) (address : ℕ) : Type 0 where

@@ -11,7 +11,7 @@ use Rattle.hv_tree_model.specs.Sites.{Site, squares, is_outside}
 use Rattle.hv_tree_model.specs.EarlierUnits.{Square, Unavailable, Coded, squares_of}
 use Rattle.hv_tree_model.specs.Plans.{Plan, prediction_of, coded_square, square_or_none, transform_units_at, tree_at}
 use Rattle.hv_syntax.specs.Blocks.{ends}
-use Rattle.hv_syntax.specs.Squares.{own_square, NamesNode}
+use Rattle.hv_near.specs.Squares.{own_square, NamesNode}
 use Rattle.hv_syntax.proofs.NodeLemmas.{outside_tree, leaf_tree, split_tree, size_of_split, four_at}
 use Rattle.hv_unit_model.proofs.AroundLemmas.{length-tree_at}
 use Rattle.hv_tree_model.proofs.NodeLemmas.{squares_above_0, leaf_squares}

@@ -11,7 +11,7 @@ use Rattle.hv_tree_model.specs.EarlierUnits.{Square, Unavailable, squares_of, af
 use Rattle.hv_tree_model.specs.Plans.{Plan, leaf_of, tree_at}
 use Rattle.hv_syntax.specs.declared.block.Block.{Block}
 use Rattle.hv_syntax.specs.Blocks.{plan_of, place_of, node_of, ends}
-use Rattle.hv_syntax.specs.Squares.{own_square, Shows, NamesNode}
+use Rattle.hv_near.specs.Squares.{own_square, Shows, NamesNode}
 use Rattle.hv_unit_model.proofs.AroundLemmas.{length-tree_at}
 use Rattle.hv_tree_model.proofs.NodeLemmas.{squares_above_0}
 

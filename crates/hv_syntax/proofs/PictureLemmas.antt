@@ -15,7 +15,7 @@ use Rattle.hv_block.proofs.AroundLemmas.{left_is_before, above_is_before, above_
 use Rattle.hv_tree_model.specs.Sites.{Site, blocks_over, address_of}
 use Rattle.hv_tree_model.specs.Plans.{Plan, IsPlan}
 use Rattle.hv_unit_model.specs.PlanLaws.{AreEdges, AreSeen, LieAround, unit_of_plan}
-use Rattle.hv_syntax.specs.Neighbours.{lists_of_plan, unit_edges, around_of}
+use Rattle.hv_near.specs.Neighbours.{lists_of_plan, unit_edges, around_of}
 
 -- ---- the front of a list
 

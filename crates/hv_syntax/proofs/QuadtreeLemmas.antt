@@ -12,7 +12,7 @@ use Rattle.hv_tree_model.specs.Plans.{leaf_of}
 use Rattle.hv_unit_model.specs.Bins.{split_bins, pred_mode_bins, predicted_bins, bins_of_node}
 use Rattle.hv_syntax.specs.declared.block.Block.{Block}
 use Rattle.hv_syntax.specs.Blocks.{plan_of, place_of, node_of, Sees, Reached, ends}
-use Rattle.hv_syntax.specs.Squares.{Shows, NamesNode}
+use Rattle.hv_near.specs.Squares.{Shows, NamesNode}
 use Rattle.hv_syntax.proofs.ChainLemmas.{puts_3, puts_5}
 use Rattle.hv_syntax.proofs.NodeLemmas.{outside_tree, leaf_tree, split_tree, size_of_split, shows_after, names_parts}
 

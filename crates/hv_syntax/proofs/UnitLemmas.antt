@@ -14,7 +14,7 @@ use Rattle.hv_syntax.specs.declared.block.Block.{Block}
 use Rattle.hv_syntax.specs.Blocks.{plan_of, place_of, node_of, seen_left, seen_above, AreBeside, Sees}
 use Rattle.hv_syntax.proofs.AroundLemmas.{in_block_sees}
 use Rattle.hv_syntax.proofs.SeenLemmas.{candidates_seen}
-use Rattle.hv_syntax.specs.Squares.{Shows}
+use Rattle.hv_near.specs.Squares.{Shows}
 
 pub shows_none : (site : Site) (plan : Plan) → Shows site plan 0 []
 shows_none site plan = record { count = refl; square = λ a h inside. absurd (omega (arith, h)) }

@@ -8,7 +8,7 @@ use Rattle.hv_tree_model.specs.Plans.{Plan, UnitsAround, on_right, on_bottom, sq
 use Rattle.hv_syntax.specs.declared.block.Beside.{Beside}
 use Rattle.hv_syntax.specs.declared.block.Plan.{Plan as CodePlan}
 use Rattle.hv_syntax.specs.declared.block.Block.{Block}
-use Rattle.hv_syntax.specs.Squares.{own_square, Shows}
+use Rattle.hv_near.specs.Squares.{own_square, Shows}
 
 abbrev pub lists_of : CodePlan → Plan
 lists_of p = record { units = p.units.now; luma = p.luma.now; cb = p.cb.now; cr = p.cr.now }

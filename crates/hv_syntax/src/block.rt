@@ -2,7 +2,7 @@
 
 ghost use Rattle.std.specs.Prelude.{◌≡◌, length};
 
-use crate::site::Site;
+use hv_near::Site;
 use hv_plan::Unit;
 use hv_tables::SliceKind;
 

@@ -46,11 +46,11 @@ fn count_mode_by(first: u8, second: u8, third: u8, mode: u8) -> u64
     6
 }
 
-/// How many bins a luma mode of intra prediction takes (7.3.8.5, 9.3.3): `prev_intra_luma_pred_flag`,
-/// and `mpm_idx` or `rem_intra_luma_pred_mode`.
+/// How many bins a luma mode of intra prediction takes (7.3.8.5, 9.3.3):
+/// `prev_intra_luma_pred_flag`, and `mpm_idx` or `rem_intra_luma_pred_mode`.
 ///
-/// `candidates` are the three most probable modes (8.4.2), and `mode` is 0 to 34. It takes no memory
-/// and always answers.
+/// `candidates` are the three most probable modes (8.4.2), and `mode` is 0 to 34. It takes no
+/// memory and always answers.
 pub fn count_luma_mode(candidates: [u8; 3], mode: u8) -> u64
     ensures value { result ≡ length (luma_mode_bins candidates mode) }
     ensures most { result ≤ 6 }
@@ -81,8 +81,9 @@ fn count_component(difference: i16) -> u64
     count_magnitude(difference.unsigned_abs())
 }
 
-/// How many bins a vector's difference has.
-fn count_difference(difference: Mv) -> u64
+/// How many bins the difference of a vector (`mvd_coding`, 7.3.8.9, 9.3.3) takes, at most 102. Its
+/// components are quarters of a luma sample. It takes no memory and always answers.
+pub fn count_difference(difference: Mv) -> u64
     ensures value { result ≡ length (mvd_bins difference) }
     ensures most { result ≤ 102 }
 {

@@ -7,15 +7,15 @@ ghost use Rattle.hv_tree_model.specs.Plans.{prediction_of, leaf_of};
 ghost use Rattle.hv_unit_model.specs.Bins.{pred_mode_bins, split_bins, predicted_bins, bins_of_node};
 ghost use Rattle.hv_syntax.specs.Levels.{units_of, size_of};
 ghost use Rattle.hv_syntax.specs.Blocks.{plan_of, place_of, node_of, Sees, Reached};
-ghost use Rattle.hv_syntax.specs.Squares.{Shows, NamesNode};
+ghost use Rattle.hv_near.specs.Squares.{Shows, NamesNode};
 
-use crate::addresses::{crosses, is_outside, squares};
 use crate::block::Block;
 use crate::counting::{count_inter, count_intra};
 use crate::leaves::unit_levels;
 use crate::levels::UnitLevels;
 use crate::quadtree::is_leaf;
 use crate::seen::{candidates, own_unit};
+use hv_near::{crosses, is_outside, squares};
 use hv_plan::Pred;
 use hv_tables::SliceKind;
 

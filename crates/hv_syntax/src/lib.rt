@@ -3,7 +3,6 @@
 //! always answers.
 #![tactic(auto)]
 
-mod addresses;
 mod block;
 mod coding_unit;
 mod counting;
@@ -21,16 +20,13 @@ mod quadtree;
 #[cfg(test)]
 mod recorder;
 mod seen;
-mod site;
 #[cfg(test)]
 mod tests;
 mod transform;
 mod unit;
 
-pub use addresses::{address_of, column_of, crosses, is_outside, row_of, squares};
-pub use counting::count_luma_mode;
+pub use counting::{count_difference, count_luma_mode};
 pub use modes::most_probable;
 pub use naming::{names_its_node, names_its_units};
 pub use probable_modes::most_probable_modes;
-pub use site::Site;
 pub use unit::{count_node, put_ctb};

@@ -4,15 +4,14 @@ ghost use Rattle.std.specs.Prelude.{◌≡◌, ◌<◌, ◌≤◌, ◌+◌, ◌-
 ghost use Rattle.hv_tree_model.specs.Sites.{squares, address_of, is_outside};
 ghost use Rattle.hv_tree_model.specs.Plans.{NamesItsUnits, prediction_of, coded_square};
 ghost use Rattle.hv_syntax.specs.Blocks.{lists_of, ends};
-ghost use Rattle.hv_syntax.specs.Neighbours.{lists_of_plan};
-ghost use Rattle.hv_syntax.specs.Squares.{NamesNode, own_square};
+ghost use Rattle.hv_near.specs.Neighbours.{lists_of_plan};
+ghost use Rattle.hv_near.specs.Squares.{NamesNode, own_square};
 
-use crate::addresses::{address_of, is_outside};
 use crate::block::Plan;
 use crate::near::view;
 use crate::quadtree::is_leaf;
-use crate::site::Site;
 use hv_block::CtbPlan;
+use hv_near::{Site, address_of, is_outside};
 use hv_plan::{Mv, Node, Place, Pred, Unit};
 
 /// Whether two vectors are the same.

@@ -3,7 +3,7 @@
 ghost use Rattle.std.specs.Prelude.{◌≡◌, ◌<◌, ℕ};
 ghost use Rattle.hv_tree_model.specs.Plans.{on_right, on_bottom};
 ghost use Rattle.hv_syntax.specs.Blocks.{lists_of, side_square, AreBeside};
-ghost use Rattle.hv_syntax.specs.Neighbours.{lists_of_plan, unit_edges, around_of};
+ghost use Rattle.hv_near.specs.Neighbours.{lists_of_plan, unit_edges, around_of};
 
 use crate::block::{Beside, Plan};
 use hv_block::{CtbPlan, Edges, Neighbours};

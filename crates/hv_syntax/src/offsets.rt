@@ -9,7 +9,7 @@ ghost use Rattle.hv_unit_model.specs.Bins.{sao_bins, sao_type_bins, offset_abs_b
 ghost use Rattle.hv_syntax.specs.Parts.{offset_sign_bins};
 
 use crate::elements::{put_bin, put_where};
-use crate::site::Site;
+use hv_near::Site;
 use hv_plan::{SaoComponent, SaoKind, SaoParam};
 use hv_residual::{put_fixed_length, put_truncated_unary};
 use hv_tables::{BinSink, CtxTable};

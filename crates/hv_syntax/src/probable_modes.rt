@@ -6,14 +6,14 @@ ghost use Rattle.hv_tree_model.specs.Sites.{is_outside};
 ghost use Rattle.hv_tree_model.specs.EarlierUnits.{Square};
 ghost use Rattle.hv_tree_model.specs.MostProbableModes.{candidates};
 ghost use Rattle.hv_tree_model.specs.Plans.{in_block};
-ghost use Rattle.hv_syntax.specs.Neighbours.{lists_of_plan, around_of};
-ghost use Rattle.hv_syntax.specs.Squares.{Shows};
+ghost use Rattle.hv_near.specs.Neighbours.{lists_of_plan, around_of};
+ghost use Rattle.hv_near.specs.Squares.{Shows};
 
 use crate::block::Block;
 use crate::near::{beside, view};
 use crate::seen::candidates;
-use crate::site::Site;
 use hv_block::{CtbPlan, Neighbours};
+use hv_near::Site;
 use hv_plan::Place;
 use hv_tables::SliceKind;
 
@@ -21,9 +21,9 @@ use hv_tables::SliceKind;
 /// address of the block at this place, by the units at its left and above: those of the plan, as
 /// far as they come before the address, and those in the edges of the blocks around. They are the
 /// defined ones, behind any squares coded earlier that are those of the plan's units at the
-/// addresses below, so far as they are inside the picture. The unit begins inside the picture, which
-/// has a column of luma samples at least; the kind of the slice makes no difference. It takes no
-/// memory and always answers.
+/// addresses below, so far as they are inside the picture. The unit begins inside the picture,
+/// which has a column of luma samples at least; the kind of the slice makes no difference. It takes
+/// no memory and always answers.
 pub fn most_probable_modes(place: Place, near: &Neighbours, plan: &CtbPlan, address: u8) -> [u8; 3]
     requires width { 0 < place.width }
     requires address { address < 64 }

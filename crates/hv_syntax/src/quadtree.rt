@@ -8,15 +8,15 @@ ghost use Rattle.hv_tree_model.specs.Plans.{prediction_of, leaf_of};
 ghost use Rattle.hv_unit_model.specs.Bins.{split_bins, predicted_bins, bins_of_node};
 ghost use Rattle.hv_syntax.specs.Levels.{units_of, size_of};
 ghost use Rattle.hv_syntax.specs.Blocks.{plan_of, place_of, node_of, Sees, Reached, ends};
-ghost use Rattle.hv_syntax.specs.Squares.{Shows, NamesNode};
+ghost use Rattle.hv_near.specs.Squares.{Shows, NamesNode};
 
-use crate::addresses::{crosses, is_outside, squares};
 use crate::block::Block;
 use crate::coding_unit::{put_inter, put_intra, put_pred_mode};
 use crate::elements::put_bin;
 use crate::leaves::unit_levels;
 use crate::levels::UnitLevels;
 use crate::seen::{candidates, own_unit, split_context};
+use hv_near::{crosses, is_outside, squares};
 use hv_plan::Pred;
 use hv_tables::{BinSink, CtxTable};
 

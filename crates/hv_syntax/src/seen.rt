@@ -8,9 +8,9 @@ ghost use Rattle.hv_tree_model.specs.MostProbableModes.{candModeList, candIntraP
 ghost use Rattle.hv_tree_model.specs.Plans.{square_or_none};
 ghost use Rattle.hv_syntax.specs.Blocks.{side_square, seen_left, seen_above};
 
-use crate::addresses::{address_of, column_of, row_of};
 use crate::block::Block;
 use crate::modes::most_probable;
+use hv_near::{address_of, column_of, row_of};
 use hv_plan::{Pred, Unit};
 
 /// One of eight units.

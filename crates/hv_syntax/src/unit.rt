@@ -6,17 +6,16 @@ ghost use Rattle.hv_tree_model.specs.Plans.{NamesItsUnits, tree_at, tree_of, in_
 ghost use Rattle.hv_unit_model.specs.Bins.{bins, bins_of_node};
 ghost use Rattle.hv_tree_model.specs.Sites.{address_of, squares};
 ghost use Rattle.hv_tree_model.specs.EarlierUnits.{Square};
-ghost use Rattle.hv_syntax.specs.Neighbours.{lists_of_plan, around_of};
-ghost use Rattle.hv_syntax.specs.Squares.{Shows, NamesNode};
+ghost use Rattle.hv_near.specs.Neighbours.{lists_of_plan, around_of};
+ghost use Rattle.hv_near.specs.Squares.{Shows, NamesNode};
 
-use crate::addresses::address_of;
 use crate::block::Block;
 use crate::counting_tree::count_node_of;
 use crate::near::{beside, view};
 use crate::offsets::put_offsets;
 use crate::quadtree::put_node;
-use crate::site::Site;
 use hv_block::{CtbPlan, Neighbours};
+use hv_near::{Site, address_of};
 use hv_plan::{Node, Place, SaoParam};
 use hv_tables::{BinSink, SliceKind};
 

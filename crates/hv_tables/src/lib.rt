@@ -1,7 +1,7 @@
-//! Bins with their contexts, and tables of H.265 that definitions and code both read: those of the arithmetic coder, the
-//! transform matrix, intra prediction angles, the quantisers of chroma and the factors of scaling.
-//! In `specs/` each stands as the standard's rule or row; here as a table, with the law that its
-//! entries are those.
+//! Bins with their contexts, and tables of H.265 that definitions and code both read: those of the
+//! arithmetic coder, the transform matrix, intra prediction angles, the quantisers of chroma and
+//! the factors of scaling. In `specs/` each stands as the standard's rule or row; here as a table,
+//! with the law that its entries are those.
 #![tactic(auto)]
 
 mod angles;

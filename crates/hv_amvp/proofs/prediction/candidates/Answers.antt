@@ -1,7 +1,7 @@
 use Rattle.std.proofs.Common.{◌≡◌, List, length, ap, ◌∙◌, sym}
 use Rattle.hv_plan.specs.declared.prediction.Unit.{Unit}
 use Rattle.hv_tree_model.specs.Plans.{Plan, look_around}
-use Rattle.hv_syntax.specs.Neighbours.{lists_of_plan, around_of}
+use Rattle.hv_near.specs.Neighbours.{lists_of_plan, around_of}
 use Rattle.hv_vector_model.specs.declared.motion.Neighbourhood.{Neighbourhood}
 use Rattle.hv_vector_model.specs.VectorPrediction.{mvpListL0}
 use Rattle.hv_vector_model.specs.Vectors.{neighbourhood_of, plan_with_vectors, around_with_vectors}

@@ -2,7 +2,7 @@ use Rattle.std.proofs.Common.{◌≡◌, ℕ, ◌-◌, ◌<◌, ◌≤◌, sym, 
 use Rattle.hv_tree_model.specs.Sites.{address_of, column_of, row_of}
 use Rattle.hv_tree_model.specs.Plans.{in_block}
 use Rattle.hv_unit_model.proofs.GeometryLemmas.{place_of_address}
-use Rattle.hv_syntax.specs.Neighbours.{lists_of_plan, around_of}
+use Rattle.hv_near.specs.Neighbours.{lists_of_plan, around_of}
 use Rattle.hv_mode.proofs.NodeCostLemmas.{node_in_block, ends_there, names_there, counted_here}
 use Rattle.hv_mode.proofs.cost.node_bins.Goals as goal
 

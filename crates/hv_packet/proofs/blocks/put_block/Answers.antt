@@ -9,7 +9,7 @@ use Rattle.hv_block.specs.declared.edges.Neighbours.{Neighbours}
 use Rattle.hv_tree_model.specs.Sites.{site, blocks_over}
 use Rattle.hv_tree_model.specs.Plans.{tree_of}
 use Rattle.hv_unit_model.specs.PlanLaws.{LieAround}
-use Rattle.hv_syntax.specs.Neighbours.{around_of}
+use Rattle.hv_near.specs.Neighbours.{around_of}
 use Rattle.hv_syntax.proofs.PictureLemmas.{lies_around}
 use Rattle.hv_packet.specs.BlockPlans.{plan_of, plans_of}
 use Rattle.hv_packet.proofs.AroundLemmas.{plans_before, bins_by_around}

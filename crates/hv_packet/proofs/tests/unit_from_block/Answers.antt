@@ -5,7 +5,7 @@ use Rattle.hv_types.specs.declared.settings.Settings.{Settings}
 use Rattle.hv_stream_model.specs.Headers.{used_count}
 use Rattle.hv_slice_model.specs.Slices.{header_in}
 use Rattle.hv_slice_model.specs.BlankUnits.{no_offsets}
-use Rattle.hv_syntax.specs.Neighbours.{lists_of_plan}
+use Rattle.hv_near.specs.Neighbours.{lists_of_plan}
 use Rattle.hv_packet.specs.BlockPlans.{plans_of}
 use Rattle.hv_packet.proofs.OneBlockLemmas.{opening, counted_there, names_there, valid_there}
 use Rattle.hv_packet.proofs.tests.unit_from_block.Goals as goal

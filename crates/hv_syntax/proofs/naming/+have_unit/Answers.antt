@@ -1,7 +1,7 @@
 use Rattle.std.proofs.Common.{◌≡◌, false}
 use Rattle.hv_tree_model.specs.Plans.{coded_square}
 use Rattle.hv_syntax.specs.Blocks.{lists_of}
-use Rattle.hv_syntax.specs.Squares.{own_square}
+use Rattle.hv_near.specs.Squares.{own_square}
 use Rattle.hv_tree_model.specs.Sites.{is_outside}
 use Rattle.hv_syntax.proofs.NamingLemmas.{each_from, others_of}
 use Rattle.hv_syntax.proofs.naming.+have_unit.Goals as goal

@@ -1,6 +1,6 @@
 use Rattle.hv_syntax.specs.declared.block.Block.{Block}
 use Rattle.hv_tables.specs.declared.bins.SliceKind.TheVariants.{I}
-use Rattle.hv_syntax.specs.Neighbours.{lists_of_plan, around_of}
+use Rattle.hv_near.specs.Neighbours.{lists_of_plan, around_of}
 use Rattle.hv_syntax.proofs.UnitLemmas.{modes_at}
 use Rattle.hv_syntax.proofs.probable_modes.most_probable_modes.Goals as goal
 

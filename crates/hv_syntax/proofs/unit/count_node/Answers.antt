@@ -1,7 +1,7 @@
 use Rattle.std.proofs.Common.{◌-◌, arith}
 use Rattle.hv_tree_model.specs.Sites.{address_of}
 use Rattle.hv_syntax.specs.declared.block.Block.{Block}
-use Rattle.hv_syntax.specs.Neighbours.{lists_of_plan, around_of}
+use Rattle.hv_near.specs.Neighbours.{lists_of_plan, around_of}
 use Rattle.hv_syntax.proofs.UnitLemmas.{count_at}
 use Rattle.hv_syntax.proofs.unit.count_node.Goals as goal
 

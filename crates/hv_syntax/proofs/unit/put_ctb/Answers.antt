@@ -3,7 +3,7 @@ use Rattle.hv_tables.specs.Bins.{Puts}
 use Rattle.hv_tree_model.specs.Plans.{Plan, tree_of, in_block}
 use Rattle.hv_unit_model.specs.Bins.{bins}
 use Rattle.hv_syntax.specs.declared.block.Block.{Block}
-use Rattle.hv_syntax.specs.Neighbours.{around_of}
+use Rattle.hv_near.specs.Neighbours.{around_of}
 use Rattle.hv_syntax.proofs.UnitLemmas.{puts_ctb}
 use Rattle.hv_syntax.proofs.unit.put_ctb.Goals as goal
 

@@ -1,6 +1,6 @@
 use Rattle.std.proofs.Common.{arith}
 use Rattle.std.proofs.Math.Pow.{pow_mono}
-use Rattle.hv_syntax.proofs.addresses.side.Goals as goal
+use Rattle.hv_near.proofs.addresses.side.Goals as goal
 
 pub returns-clause-most : goal.returns-clause-most
 returns-clause-most c =

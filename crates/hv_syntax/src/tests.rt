@@ -5,10 +5,10 @@ ghost use Rattle.std.specs.Prelude.{◌≡◌, ◌<◌};
 use crate::recorder::Bin::{Bypass, Coded, Terminate};
 use crate::recorder::{Bin, Compared, Recorder};
 use crate::{
-    address_of, column_of, count_node, most_probable, most_probable_modes, names_its_node,
-    names_its_units, put_ctb, row_of,
+    count_node, most_probable, most_probable_modes, names_its_node, names_its_units, put_ctb,
 };
 use hv_block::{Block, Edges, Neighbours};
+use hv_near::{address_of, column_of, row_of};
 use hv_plan::{Mv, Node, Place, Pred, SaoComponent, SaoKind, SaoParam};
 use hv_tables::CtxTable::{
     Merge, MvdGreater0, MvdGreater1, MvpFlag, PartMode, PredMode, PrevIntra, RootCbf, SaoType,

@@ -1,15 +1,20 @@
--- Deblocking (8.7.2) asks only how squares inside the picture are coded: both passes give the same
--- samples where these are coded alike.
-use Rattle.std.proofs.Common.{◌≡◌, ℕ, ◌+◌, ◌-◌, ◌*◌, ◌/◌, ◌%◌, ◌<◌, Bool, true, false, cond, nat_lt, ◌&&◌, refl, sym, ◌∙◌, ap, subst, arith}
+-- Deblocking (8.7.2) asks only how squares inside the picture are coded, and no difference of a
+-- vector: both passes give the same samples where the edges have the same strengths.
+use Rattle.std.proofs.Common.{◌≡◌, ℕ, ◌+◌, ◌-◌, ◌*◌, ◌/◌, ◌%◌, ◌<◌, Bool, true, false, cond, nat_lt, ◌&&◌, ◌||◌, refl, sym, ◌∙◌, ap, subst, arith}
 use Rattle.std.proofs.lemmas.Bool.{and_parts, ltb-true}
+use Rattle.hv_types.specs.declared.picture.Picture.{Picture}
 use Rattle.hv_types.specs.Samples.{Plane, sample_at}
+use Rattle.hv_types.specs.Video.{IsPicture}
+use Rattle.hv_plan.specs.declared.prediction.Pred.{Pred}
+use Rattle.hv_plan.specs.declared.prediction.Pred.TheVariants.{Intra, Inter}
+use Rattle.hv_inter_model.specs.UnitVectors.{pred_with_vector}
 use Rattle.hv_filter_model.proofs.OffLemmas.{picture_same}
 use Rattle.hv_deblock_model.specs.declared.coding.SquareCoding.{SquareCoding}
 use Rattle.hv_deblock_model.specs.declared.line.Line.{Line}
-use Rattle.hv_deblock_model.specs.EdgeStrength.{Squares, is_transform_edge, strength, edge_strength}
+use Rattle.hv_deblock_model.specs.EdgeStrength.{Squares, is_transform_edge, motion_strength, with_levels, strength, edge_strength}
 use Rattle.hv_deblock_model.specs.EdgeFilters.{luma_edge, chroma_edge}
-use Rattle.hv_deblock_model.specs.Deblocking.{Samples, EdgeFilter, line_at, line_sample, pass, turned, nearest_edge, first_of_four, filtered_line, luma_filter, chroma_filter, both_passes, deblocked_plane}
-use Rattle.hv_deblock_model.specs.SquaresInside.{SameInside, OnlySquaresInsideCount}
+use Rattle.hv_deblock_model.specs.Deblocking.{Samples, EdgeFilter, line_at, line_sample, pass, turned, nearest_edge, first_of_four, filtered_line, luma_filter, chroma_filter, both_passes, deblocked_plane, deblocked_picture}
+use Rattle.hv_deblock_model.specs.SquaresInside.{SameInside, OnlySquaresInsideCount, squares_with_vectors, DifferencesDoNotCount}
 use Rattle.hv_deblock_model.proofs.LineLemmas.{line_same}
 use Rattle.hv_types.proofs.SampleLemmas.{plane_same}
 
@@ -96,45 +101,78 @@ plane_alike columns rows filter a b plane wide high alike =
 
 -- ---- strengths
 
+abbrev StrengthsAlike : ℕ → ℕ → Squares → Squares → Type 0
+StrengthsAlike width height a b =
+    (column row : ℕ) → 8 * column < width → 8 * row < height →
+    edge_strength a column row ≡ edge_strength b column row
+
 strength_same : (column row : ℕ) (p q r s : SquareCoding) → p ≡ r → q ≡ s →
     cond (nat_lt 0 column && is_transform_edge column q.unit.depth) (strength p q) 0 ≡
     cond (nat_lt 0 column && is_transform_edge column s.unit.depth) (strength r s) 0
 strength_same column row p q r s e f = rw (e, f) refl
 
 edge_same : (width height : ℕ) (a b : Squares) → SameInside width height a b →
-    (column row : ℕ) → 8 * column < width → 8 * row < height →
-    edge_strength a column row ≡ edge_strength b column row
+    StrengthsAlike width height a b
 edge_same width height a b same column row across down =
     strength_same column row (a (column - 1) row) (a column row) (b (column - 1) row)
     (b column row) (same (column - 1) row (omega (arith, across)) down)
     (same column row across down)
 
-luma_same : (qp width height : ℕ) (a b : Squares) → SameInside width height a b →
+luma_same : (qp width height : ℕ) (a b : Squares) → StrengthsAlike width height a b →
     SameFilter width height (luma_filter qp a) (luma_filter qp b)
-luma_same qp width height a b same k y first last line some across down =
+luma_same qp width height a b alike k y first last line some across down =
     ap (λ bS. luma_edge qp bS first last line)
-    (edge_same width height a b same k (y / 8) across (omega (arith, down)))
+    (alike k (y / 8) across (omega (arith, down)))
 
-chroma_same : (qp width height : ℕ) (a b : Squares) → SameInside width height a b →
+chroma_same : (qp width height : ℕ) (a b : Squares) → StrengthsAlike width height a b →
     SameFilter (width / 2) (height / 2) (chroma_filter qp a) (chroma_filter qp b)
-chroma_same qp width height a b same k y first last line some across down =
+chroma_same qp width height a b alike k y first last line some across down =
     ap (λ bS. chroma_edge qp bS line)
-    (edge_same width height a b same (2 * k) (y / 4) (omega (arith, across)) (omega (arith, down)))
+    (alike (2 * k) (y / 4) (omega (arith, across)) (omega (arith, down)))
 
-pub inside_counts : OnlySquaresInsideCount
-inside_counts qp width height a b picture wide high is same =
-    let other : SameInside height width (turned a) (turned b) =
-    λ column row across down. same row column down across in
+strengths_count : (qp width height : ℕ) (a b : Squares) (picture : Picture) →
+    width % 8 ≡ 0 → height % 8 ≡ 0 → IsPicture width height picture →
+    StrengthsAlike width height a b → StrengthsAlike height width (turned a) (turned b) →
+    deblocked_picture qp a picture ≡ deblocked_picture qp b picture
+strengths_count qp width height a b picture wide high is upright level =
     let luma : PassesAlike width height (luma_filter qp) a b =
-    passes_alike width height (luma_filter qp) a b (luma_same qp width height a b same)
-    (luma_same qp height width (turned a) (turned b) other) (omega (arith, high)) in
+    passes_alike width height (luma_filter qp) a b (luma_same qp width height a b upright)
+    (luma_same qp height width (turned a) (turned b) level) (omega (arith, high)) in
     let chroma : PassesAlike (width / 2) (height / 2) (chroma_filter qp) a b =
     passes_alike (width / 2) (height / 2) (chroma_filter qp) a b
-    (chroma_same qp width height a b same)
-    (chroma_same qp height width (turned a) (turned b) other) (omega (arith, high)) in
+    (chroma_same qp width height a b upright)
+    (chroma_same qp height width (turned a) (turned b) level) (omega (arith, high)) in
     picture_same _ _ _ _ _ _
     (plane_alike width height (luma_filter qp) a b picture.luma is.luma.wide is.luma.high luma)
     (plane_alike (width / 2) (height / 2) (chroma_filter qp) a b picture.cb is.cb.wide is.cb.high
     chroma)
     (plane_alike (width / 2) (height / 2) (chroma_filter qp) a b picture.cr is.cr.wide is.cr.high
     chroma)
+
+pub inside_counts : OnlySquaresInsideCount
+inside_counts qp width height a b picture wide high is same =
+    strengths_count qp width height a b picture wide high is (edge_same width height a b same)
+    (edge_same height width (turned a) (turned b)
+    (λ column row across down. same row column down across))
+
+-- ---- differences of vectors
+
+motion_moved : (p q : Pred) →
+    motion_strength p q ≡ motion_strength (pred_with_vector p) (pred_with_vector q)
+motion_moved (Intra mode) (Intra other) = refl
+motion_moved (Intra mode) (Inter other vector other_flag other_mvd) = refl
+motion_moved (Inter reference mv flag mvd) (Intra mode) = refl
+motion_moved (Inter reference mv flag mvd) (Inter other vector other_flag other_mvd) = refl
+
+edge_moved : (width height : ℕ) (squares : Squares) →
+    StrengthsAlike width height squares (squares_with_vectors squares)
+edge_moved width height squares column row across down =
+    let p : SquareCoding = squares (column - 1) row in
+    let q : SquareCoding = squares column row in
+    ap (λ n. cond (nat_lt 0 column && is_transform_edge column q.unit.depth)
+    (with_levels (p.has_levels || q.has_levels) n) 0) (motion_moved p.unit.pred q.unit.pred)
+
+pub differences_do_not_count : DifferencesDoNotCount
+differences_do_not_count qp width height squares picture wide high is =
+    sym (strengths_count qp width height squares (squares_with_vectors squares) picture wide high
+    is (edge_moved width height squares) (edge_moved height width (turned squares)))

@@ -10,4 +10,4 @@ mod squares_inside;
 pub use coding::SquareCoding;
 pub use flat_pictures::flat_pictures_are_kept;
 pub use line::{Line, Side};
-pub use squares_inside::only_squares_inside_count;
+pub use squares_inside::{differences_of_vectors_do_not_count, only_squares_inside_count};

@@ -17,11 +17,11 @@ use Rattle.hv_mode_model.specs.ModeLaws.{IsIntraAlone, ISlicesAreIntraAlone, Not
 
 -- ---- trees of intra units have no vectors
 
-abbrev IsIntra : Prediction → Type 0
+abbrev pub IsIntra : Prediction → Type 0
 IsIntra (Intra mode) = Unit {0}
 IsIntra (Inter motion) = ⊥
 
-abbrev AreIntra : Tree → Type 0
+abbrev pub AreIntra : Tree → Type 0
 AreIntra Outside = Unit {0}
 AreIntra (Leaf p units) = IsIntra p
 AreIntra (Split a b c d) = AreIntra a × AreIntra b × AreIntra c × AreIntra d
@@ -67,7 +67,7 @@ module _ (g : Given) (none : TriesNone g) where
       ap₂ (λ a b. a ++ (b ++ Intra (luma_mode g size address before) ∷ []))
       (none size address before 0) (none size address before 1)
 
-  unit_intra : (size address : ℕ) (before : Before) →
+  pub unit_intra : (size address : ℕ) (before : Before) →
       AreIntra (leaf g size address before (Intra (luma_mode g size address before)))
   unfolding leaf
   unit_intra size address before = tt
@@ -151,7 +151,7 @@ module _ (g : Given) (none : TriesNone g) where
 
 -- ---- where that is so
 
-none_in_i : (g : Given) → g.surroundings.slice_type ≡ I → (size address : ℕ) (before : Before)
+pub none_in_i : (g : Given) → g.surroundings.slice_type ≡ I → (size address : ℕ) (before : Before)
     (entry : ℕ) (mv : Option Mv) → inter_by g size address before entry mv ≡ []
 none_in_i g kind size address before entry None = refl
 none_in_i g kind size address before entry (Some mv) = rw kind refl

@@ -1,7 +1,10 @@
 pub mod ChosenDecodedLemmas
 pub mod DifferenceLemmas
+pub mod DistanceLemmas
 pub mod IntraAloneLemmas
+pub mod LeastLemmas
 pub mod NeighbourLemmas
+pub mod NodeChoiceLemmas
 pub mod ReferenceLemmas
 pub mod SeenChoiceLemmas
 pub mod ValidChoiceLemmas

@@ -1,20 +1,24 @@
 -- The five squares around a node move as in the picture (8.5.3.2.7): what is seen of the blocks
--- around is what is seen in the picture, also of units that know their vectors.
-use Rattle.std.proofs.Common.{◌≡◌, ℕ, ◌+◌, ◌-◌, ◌^◌, ◌<◌, ◌≤◌, Bool, List, length, map, refl, sym, ap, ◌∙◌, arith}
+-- around is what is seen in the picture, also of units that know their vectors. Where the same is
+-- seen, the same is coded of a tree with vectors.
+use Rattle.std.proofs.Common.{◌≡◌, ℕ, zero, suc, ◌+◌, ◌-◌, ◌*◌, ◌^◌, ◌<◌, ◌≤◌, Bool, List, length, map, refl, sym, ap, ◌∙◌, arith}
 use Rattle.std.specs.Prelude.{nat_le, slice_get, Option, Some, None, option_map}
 use Rattle.std.proofs.lemmas.Bool.{leb-true}
 use Rattle.std.proofs.lemmas.List.{length-map}
 use Rattle.std.proofs.lemmas.Option.{slice_get-map}
 use Rattle.hv_lemmas.proofs.ComputedLemmas.{holds_below}
 use Rattle.hv_plan.specs.declared.prediction.Unit.{Unit}
-use Rattle.hv_tree_model.specs.Sites.{Site, column_of, row_of}
-use Rattle.hv_tree_model.specs.EarlierUnits.{Square, Look, look_picture}
+use Rattle.hv_tree_model.specs.Sites.{Site, squares, column_of, row_of}
+use Rattle.hv_tree_model.specs.Trees.{Tree, Leaf, Split, Outside}
+use Rattle.hv_tree_model.specs.EarlierUnits.{Square, after, Look, look_picture}
 use Rattle.hv_tree_model.specs.Plans.{Plan, UnitEdges, UnitsAround, look_around}
 use Rattle.hv_unit_model.specs.PlanLaws.{squares_before, unit_of_plan, AreSeen, LieAround}
 use Rattle.hv_unit_model.proofs.AroundLemmas.{blocks_around}
-use Rattle.hv_unit_model.proofs.SeenBinsLemmas.{SeeTheSame}
+use Rattle.hv_unit_model.proofs.SeenBinsLemmas.{SeeTheSame, behind as squares_behind}
 use Rattle.hv_unit_model.proofs.GeometryLemmas.{place_of_address}
 use Rattle.hv_inter_model.specs.UnitVectors.{unit_with_vector}
+use Rattle.hv_vector_model.specs.VectorPrediction.{Distances}
+use Rattle.hv_mode_model.specs.Differences.{prediction_with_difference, tree_with_differences}
 use Rattle.hv_vector_model.specs.Vectors.{neighbourhood_of, plan_with_vectors, edges_with_vectors, around_with_vectors}
 use Rattle.hv_mode_model.specs.NeighbourLaws.{NeighbourhoodsInBlockAreThoseInPicture}
 
@@ -50,7 +54,7 @@ seen_with has_block plans k (Some edges) seen = (
   },
 )
 
-around_with : (here : Site) (plans : List Plan) (around : UnitsAround) →
+pub around_with : (here : Site) (plans : List Plan) (around : UnitsAround) →
     LieAround here plans around →
     LieAround here (map plan_with_vectors plans) (around_with_vectors around)
 around_with here plans around lies = record {
@@ -95,6 +99,46 @@ same_neighbourhood one other same size address earlier few column_below row_belo
       at (x - 1) (y - 1) (omega arith) (omega (arith, column_below)) (omega arith)
           (omega (arith, row_below)),
     ) refl
+
+-- of a node whose squares are those of a block, and what is coded of its tree
+module _ (distances : Distances) (one other : Look) (same : SeeTheSame one other) where
+  pub seen_around : (size address : ℕ) (earlier : List Square) → size ≤ 3 → length earlier ≤ 64 →
+      neighbourhood_of one size address earlier ≡ neighbourhood_of other size address earlier
+  unfolding column_of row_of
+  seen_around size address earlier small few =
+      same_neighbourhood one other same size address earlier small (omega arith) (omega arith) few
+
+  pub differences_seen : (size address : ℕ) (earlier : List Square) (tree : Tree) → size ≤ 3 →
+      length earlier + squares size ≤ 64 →
+      tree_with_differences distances one size address earlier tree ≡
+      tree_with_differences distances other size address earlier tree
+  unfolding tree_with_differences
+  differences_seen zero address earlier Outside small few = refl
+  differences_seen (suc size) address earlier Outside small few = refl
+  differences_seen zero address earlier (Leaf p units) small few =
+      ap (λ n. Leaf (prediction_with_difference distances n p) units)
+      (seen_around zero address earlier small (omega (arith, few)))
+  differences_seen (suc size) address earlier (Leaf p units) small few =
+      ap (λ n. Leaf (prediction_with_difference distances n p) units)
+      (seen_around (suc size) address earlier small (omega (arith, few)))
+  differences_seen zero address earlier (Split a b c d) small few = refl
+  differences_seen (suc size) address earlier (Split a b c d) small few =
+      let n : ℕ = squares size in
+      let behind_a : List Square = after size earlier a in
+      let behind_b : List Square = after size behind_a b in
+      let behind_c : List Square = after size behind_b c in
+      let la = squares_behind size earlier a in
+      let lb = squares_behind size behind_a b in
+      let lc = squares_behind size behind_b c in
+      let below : size ≤ 3 = omega (arith, small) in
+      let first = differences_seen size address earlier a below (omega (arith, few)) in
+      let second =
+      differences_seen size (address + n) behind_a b below (omega (arith, few, la)) in
+      let third =
+      differences_seen size (address + 2 * n) behind_b c below (omega (arith, few, la, lb)) in
+      let fourth =
+      differences_seen size (address + 3 * n) behind_c d below (omega (arith, few, la, lb, lc)) in
+      λ i. Split (first i) (second i) (third i) (fourth i)
 
 pub neighbourhoods_in_picture : NeighbourhoodsInBlockAreThoseInPicture
 neighbourhoods_in_picture here plans around size address earlier before lies few inside short =

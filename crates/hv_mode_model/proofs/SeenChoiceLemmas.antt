@@ -7,22 +7,21 @@ use Rattle.hv_plan.specs.declared.prediction.Mv.{Mv}
 use Rattle.hv_tables.specs.declared.bins.SliceKind.{SliceKind}
 use Rattle.hv_types.specs.declared.picture.Picture.{Picture}
 use Rattle.hv_tree_model.specs.Trees.{Prediction, Intra, Tree, Leaf, Split, Outside, greatest_size, no_units}
-use Rattle.hv_tree_model.specs.Sites.{Site, column_of, row_of, squares, is_outside, must_split}
-use Rattle.hv_tree_model.specs.EarlierUnits.{Square, after, Look, look_picture}
+use Rattle.hv_tree_model.specs.Sites.{Site, squares, is_outside, must_split}
+use Rattle.hv_tree_model.specs.EarlierUnits.{Look, look_picture}
 use Rattle.hv_tree_model.specs.MostProbableModes.{planar, dc}
 use Rattle.hv_unit_model.specs.Bins.{luma_mode_bins, mvd_bins, bins_of_node}
-use Rattle.hv_tree_model.specs.Plans.{look_around}
-use Rattle.hv_unit_model.specs.PlanLaws.{squares_before}
+use Rattle.hv_tree_model.specs.Plans.{Plan, UnitsAround, look_around}
+use Rattle.hv_unit_model.specs.PlanLaws.{squares_before, ArePlansBefore, LieAround}
 use Rattle.hv_unit_model.proofs.AroundLemmas.{blocks_around}
 use Rattle.hv_unit_model.proofs.SeenBinsLemmas.{SeeTheSame, behind as squares_behind, same_candidates, same_bins}
 use Rattle.hv_filter_model.specs.Costs.{cost, first_least}
 use Rattle.hv_filter_model.proofs.CostLemmas.{first_least_same}
 use Rattle.hv_mode_model.specs.ModeDecision.{FoundVectors, Given, Before, behind, decoded_behind, node_square, leaf, further_modes, absolute_differences, mode_bin_weight, score, luma_mode, may_name, predictor, inter_from, inter_by, predictions, squared_errors, coded_node, cost_of, least_of, chosen, split_of, best}
-use Rattle.hv_mode_model.specs.Differences.{candidate, difference, prediction_with_difference, tree_with_differences}
+use Rattle.hv_mode_model.specs.Differences.{candidate, difference, tree_with_differences}
 use Rattle.hv_vector_model.specs.declared.motion.Neighbourhood.{Neighbourhood}
 use Rattle.hv_vector_model.specs.VectorPrediction.{Distances}
-use Rattle.hv_vector_model.specs.Vectors.{neighbourhood_of}
-use Rattle.hv_mode_model.proofs.NeighbourLemmas.{same_neighbourhood}
+use Rattle.hv_mode_model.proofs.NeighbourLemmas.{seen_around, differences_seen}
 use Rattle.hv_mode_model.specs.ModeLaws.{ChoicesInBlockAreThoseInPicture}
 
 module _ (effort qp : ℕ) (input : Picture) (slice_type : SliceKind) (references : ℕ)
@@ -49,46 +48,6 @@ module _ (effort qp : ℕ) (input : Picture) (slice_type : SliceKind) (reference
   abbrev h : Given
   h = given other
 
-  -- ---- the squares around a node, and the differences of vectors
-
-  around : (size address : ℕ) (earlier : List Square) → size ≤ greatest_size →
-      length earlier ≤ 64 →
-      neighbourhood_of one size address earlier ≡ neighbourhood_of other size address earlier
-  unfolding column_of row_of
-  around size address earlier small few =
-      same_neighbourhood one other same size address earlier small (omega arith) (omega arith) few
-
-  same_coded : (size address : ℕ) (earlier : List Square) (tree : Tree) → size ≤ greatest_size →
-      length earlier + squares size ≤ 64 →
-      tree_with_differences distances one size address earlier tree ≡
-      tree_with_differences distances other size address earlier tree
-  unfolding tree_with_differences
-  same_coded zero address earlier Outside small few = refl
-  same_coded (suc size) address earlier Outside small few = refl
-  same_coded zero address earlier (Leaf p units) small few =
-      ap (λ n. Leaf (prediction_with_difference distances n p) units)
-      (around zero address earlier small (omega (arith, few)))
-  same_coded (suc size) address earlier (Leaf p units) small few =
-      ap (λ n. Leaf (prediction_with_difference distances n p) units)
-      (around (suc size) address earlier small (omega (arith, few)))
-  same_coded zero address earlier (Split a b c d) small few = refl
-  same_coded (suc size) address earlier (Split a b c d) small few =
-      let n : ℕ = squares size in
-      let behind_a : List Square = after size earlier a in
-      let behind_b : List Square = after size behind_a b in
-      let behind_c : List Square = after size behind_b c in
-      let la = squares_behind size earlier a in
-      let lb = squares_behind size behind_a b in
-      let lc = squares_behind size behind_b c in
-      let below : size ≤ greatest_size = omega (arith, small) in
-      let first = same_coded size address earlier a below (omega (arith, few)) in
-      let second = same_coded size (address + n) behind_a b below (omega (arith, few, la)) in
-      let third =
-      same_coded size (address + 2 * n) behind_b c below (omega (arith, few, la, lb)) in
-      let fourth =
-      same_coded size (address + 3 * n) behind_c d below (omega (arith, few, la, lb, lc)) in
-      λ i. Split (first i) (second i) (third i) (fourth i)
-
   -- ---- predictions
 
   -- a unit by what is around it
@@ -106,7 +65,7 @@ module _ (effort qp : ℕ) (input : Picture) (slice_type : SliceKind) (reference
   same_inter size address before entry None small few = refl
   same_inter size address before entry (Some mv) small few =
       ap (λ n. cond (may_name g before entry) (unit_by n entry mv ∷ []) [])
-      (around size address before.earlier small few)
+      (seen_around distances one other same size address before.earlier small few)
 
   same_score : (size address : ℕ) (before : Before) → length before.earlier ≤ 64 → (mode : ℕ) →
       score g size address before mode ≡ score h size address before mode
@@ -144,7 +103,7 @@ module _ (effort qp : ℕ) (input : Picture) (slice_type : SliceKind) (reference
       (node_square g size address) in
       ap (λ bins. cost qp errors (length bins))
       (ap (λ (t : Tree). bins_of_node g.surroundings size address before.earlier t)
-      (same_coded size address before.earlier tree small few) ∙
+      (differences_seen distances one other same size address before.earlier tree small few) ∙
       same_bins slice_type references here one other same size address before.earlier
       (coded_node h size address before tree) few)
 
@@ -233,3 +192,17 @@ chosen_in_block task here plans around d before lies =
     (λ e column row short left right top low.
     blocks_around here plans around e column row before lies short left right top low)
     greatest_size 0 (record { decoded = d; earlier = [] }) (omega arith) (omega arith)
+
+-- what is coded of a tree
+pub coded_in_block : (distances : Distances) (here : Site) (plans : List Plan)
+    (around : UnitsAround) (tree : Tree) → ArePlansBefore here plans →
+    LieAround here plans around →
+    tree_with_differences distances (look_around here around) greatest_size 0 [] tree ≡
+    tree_with_differences distances (look_picture here (squares_before here plans)) greatest_size 0
+    [] tree
+coded_in_block distances here plans around tree before lies =
+    differences_seen distances (look_around here around)
+    (look_picture here (squares_before here plans))
+    (λ e column row short left right top low.
+    blocks_around here plans around e column row before lies short left right top low)
+    greatest_size 0 [] tree (omega arith) (omega arith)

@@ -1,7 +1,7 @@
 -- Worked choices in P pictures, by a program of its own, in another language, which chooses from the
 -- same rules, and whose streams are those of another encoder.
 use Rattle.std.proofs.Common.{◌≡◌, ℕ, ◌+◌, ◌-◌, ◌*◌, List, [], ◌∷◌, refl, ℤ, pos, negsuc}
-use Rattle.std.specs.Prelude.{cond, nat_lt, nat_eq, min, ◌%◌, Some}
+use Rattle.std.specs.Prelude.{cond, nat_lt, nat_eq, min, ◌%◌, Some, None}
 use Rattle.std.specs.Int.{int_wrap}
 use Rattle.hv_lemmas.specs.Lists.{tabulate}
 use Rattle.hv_plan.specs.declared.prediction.Mv.{Mv}
@@ -18,14 +18,14 @@ use Rattle.hv_residual_model.specs.ScanOrder.{scan_order, block_position}
 use Rattle.hv_residual_model.specs.ResidualSyntax.{positions}
 use Rattle.hv_residual_model.specs.ResidualBins.{level_at, downwards, levels_below, last_significant, prefix_of, last_bins, sig_coeff_bins, greater1_bins, level_bins, sub_blocks_bins, bins_from, residual_bins}
 use Rattle.hv_tree_model.specs.Trees.{Inter, Tree, Leaf, Split, Outside}
-use Rattle.hv_tree_model.specs.Sites.{sites, is_outside, column_of, row_of, crosses, address_of}
-use Rattle.hv_tree_model.specs.EarlierUnits.{look_picture}
+use Rattle.hv_tree_model.specs.Sites.{site, sites, is_outside, column_of, row_of, crosses, address_of}
+use Rattle.hv_tree_model.specs.EarlierUnits.{Coded, look_picture}
 use Rattle.hv_tree_model.specs.MostProbableModes.{candModeList, remaining_of}
 use Rattle.hv_unit_model.specs.Bins.{luma_mode_bins, mvd_bins, bins_of_node, predicted_bins, prediction_unit_bins, transform_tree_bins, transform_unit_bins}
 use Rattle.hv_recon_model.specs.Reconstruction.{nothing_decoded, decoded_block, decoded_tree}
 use Rattle.hv_vector_model.specs.VectorPrediction.{Distances, distance, scaled}
 use Rattle.hv_mode_model.specs.Differences.{tree_with_differences, trees_with_differences}
-use Rattle.hv_mode_model.specs.ModeDecision.{FoundVectors, Task, best_trees, coded_trees, best, chosen, leaf, luma_mode, predictor, chosen_levels, score, cost_of, squared_errors}
+use Rattle.hv_mode_model.specs.ModeDecision.{FoundVectors, Task, given_at, best_trees, coded_trees, best, chosen, leaf, luma_mode, predictor, chosen_levels, score, cost_of, squared_errors}
 use Rattle.hv_mode_model.proofs.WorkedPictures.{picture, unit_8, leaf_8, first_part, tree_of_8}
 
 -- ---- pictures
@@ -176,6 +176,41 @@ second_candidate_16 :
     two_units (moved_8 0 0 (vector (pos 12) (pos 4)) (pos 0)) (moved_8 0 1 still (pos 0)) ∷ []
 unfolding int_wrap best_trees best chosen leaf predictor sites is_outside column_of row_of crosses luma_mode score luma_mode_bins candModeList remaining_of truncated_unary_bins look_picture address_of chosen_levels levels inter_predicted tabulate predicted total_of sum_of decoded_tree decoded_block residual cost_of tree_with_differences squared_errors bins_of_node predicted_bins prediction_unit_bins mvd_bins transform_tree_bins transform_unit_bins residual_bins level_at last_significant prefix_of last_bins block_position scan_order bins_from levels_below downwards sig_coeff_bins level_bins greater1_bins remaining_bins exp_golomb_bins sub_blocks_bins positions distance scaled
 second_candidate_16 = refl
+
+-- Two units above each other, where search found a vector for nodes of 8x8 alone: the lower unit has
+-- the vector above it as its first candidate.
+abbrev upright : Task
+upright =
+    given P 32 (grey 8 16 (λ x y. cond (nat_lt y 8) (further 8 1 x y) (texture x y))) 1
+    (pos 1 ∷ [])
+    (λ entry x y side.
+    cond (nat_eq side 8) (Some (cond (nat_eq y 0) (vector (pos 4) (pos 0)) still)) None)
+
+-- with vectors
+upright_16 :
+    trees_of upright (grey 8 16 texture ∷ []) ≡
+    first_part (first_part (Split (moved_8 0 0 (vector (pos 4) (pos 0)) (pos 0)) Outside
+    (moved_8 0 1 still (pos 0)) Outside)) ∷ []
+unfolding int_wrap best_trees best chosen leaf predictor sites is_outside column_of row_of crosses luma_mode score luma_mode_bins candModeList remaining_of truncated_unary_bins look_picture address_of chosen_levels levels inter_predicted tabulate predicted total_of sum_of decoded_tree decoded_block residual cost_of tree_with_differences squared_errors bins_of_node predicted_bins prediction_unit_bins mvd_bins transform_tree_bins transform_unit_bins residual_bins level_at last_significant prefix_of last_bins block_position scan_order bins_from levels_below downwards sig_coeff_bins level_bins greater1_bins remaining_bins exp_golomb_bins sub_blocks_bins positions distance scaled
+upright_16 = refl
+
+-- Behind a unit at the left that moves by (4, -3), a vector of (7, 0) leaves (3, 3), which takes 10
+-- bins, or (7, 0), which is longer and takes 8: the second candidate is taken.
+fewer_bins :
+    predictor
+    (given_at (given P 32 (grey 16 8 flat) 1 (pos 1 ∷ []) (everywhere still)) (site 16 8 0) []) 0 1
+    (record {
+      decoded = nothing_decoded (grey 16 8 flat ∷ []);
+      earlier = Coded 3 (Inter (record {
+        ref_idx_l0 = 0;
+        mvp_l0_flag = 0;
+        MvdL0 = vector (pos 4) (negsuc 2);
+      })) ∷ [];
+    })
+    0 (vector (pos 7) (pos 0)) ≡ 1
+unfolding int_wrap predictor look_picture address_of column_of row_of mvd_bins exp_golomb_bins
+    distance scaled
+fewer_bins = refl
 
 -- Both candidates leave differences of the same bins, -4 and 4: the first is taken.
 abbrev equal_candidates : Task

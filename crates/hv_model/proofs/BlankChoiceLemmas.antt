@@ -70,7 +70,7 @@ module _ (g : Given) (none : g.effort ≡ 0) where
       (chosen_blank (suc size) address before
       (split_of g size address before (best g size) ∷ []))
 
-trees_blank : (task : Task) → task.effort ≡ 0 → (places : List Site) (done : List Square)
+pub trees_blank : (task : Task) → task.effort ≡ 0 → (places : List Site) (done : List Square)
     (d : Decoded) → best_trees task places done d ≡ map blank_tree places
 unfolding best_trees
 trees_blank task none [] done d = refl
@@ -81,14 +81,14 @@ trees_blank task none (site ∷ places) done d =
 
 -- ---- offsets
 
-offsets_off : (effort qp : ℕ) (deblocked input : Picture) → effort ≡ 0 →
+pub offsets_off : (effort qp : ℕ) (deblocked input : Picture) → effort ≡ 0 →
     picture_offsets effort qp deblocked input ≡ tabulate (block_count deblocked) (λ i. off_param)
 offsets_off effort qp deblocked input none =
     ap (λ e. picture_offsets e qp deblocked input) none
 
 -- ---- units
 
-units_blank : (places : List Site) →
+pub units_blank : (places : List Site) →
     tree_units places (map blank_tree places) (tabulate (length places) (λ i. off_param)) ≡
     blank_units places
 unfolding tabulate

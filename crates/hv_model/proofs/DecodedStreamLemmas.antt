@@ -20,16 +20,17 @@ use Rattle.hv_model.specs.Parsing.{CodedPicture, Sequence, begins_with_idr, in_f
 use Rattle.hv_model.specs.Decoding.{shown_sequence, shown_then, shown_of, decode_of}
 use Rattle.hv_slice_model.specs.Slices.{picture_sites, header_in}
 use Rattle.hv_model.specs.Encoding.{groups_of}
+use Rattle.hv_model.specs.InterStreamLaws.{AreGroups}
 use Rattle.hv_stream_model.proofs.HeaderLemmas.{reads_vps, reads_sps, reads_pps, codable_vps, codable_sps, codable_pps, sizes_allowed}
 use Rattle.hv_stream_model.proofs.UnitLemmas.{streams_read, stream_of_units}
 use Rattle.hv_unit_model.proofs.UnitLemmas.{sites_there}
 use Rattle.hv_model.proofs.KeepingLemmas.{AreDecodedTo}
 use Rattle.hv_model.proofs.PayloadLemmas.{parameters-back}
 use Rattle.hv_model.proofs.SliceLemmas.{slices_back}
-use Rattle.hv_model.proofs.GroupLemmas.{AreGroups, groups_are}
+use Rattle.hv_model.proofs.GroupLemmas.{groups_are}
 use Rattle.hv_model.proofs.OrderLemmas.{IsGood, orders_good}
 use Rattle.hv_model.proofs.GroupShownLemmas.{group_shown}
-use Rattle.hv_model.proofs.WrittenUnitLemmas.{set_unit, slice_unit, group_units, units_after_sets, units, written, units_joined, all_units, groups_kept}
+use Rattle.hv_model.proofs.WrittenUnitLemmas.{set_unit, slice_unit, group_units, units_with, written_with, written, units_joined, all_units, groups_kept}
 use Rattle.hv_lemmas.proofs.ComparisonLemmas.{suc_other_than_0}
 
 -- ---- pictures and sequences in general
@@ -248,34 +249,41 @@ module _
         (omega (arith, h.1, valid.group_most))
         (good_order cfg valid (length group) h.0 h.1).below (groups_are_parsed groups h.2)
 
-    units_parsed : (pictures : List Picture) →
-        parsed_units (units cfg units_of pictures) ≡
-        Some (map (sequence_of cfg valid units_of) (groups_of cfg pictures))
-    units_parsed [] = refl
-    units_parsed (picture ∷ pictures) =
-        let all : List Picture = picture ∷ pictures in
-        let groups : List (List Picture) = groups_of cfg all in
-        let are : AreGroups cfg.group groups = groups_are cfg all valid.group_least in
+    units_parsed : (groups : List (List Picture)) → AreGroups cfg.group groups →
+        parsed_units (units_with cfg units_of groups) ≡
+        Some (map (sequence_of cfg valid units_of) groups)
+    units_parsed groups are =
         ap (λ us. sequences_after_sets
         (set_unit 32 (vps cfg.levels) ∷ set_unit 33 (sps cfg.levels (size_of cfg)) ∷
         set_unit 34 pps ∷ us))
         (groups_kept cfg units_of groups) ∙
-        sets_read cfg valid.levels (sizes_allowed cfg valid) (units_after_sets cfg units_of all) ∙
+        sets_read cfg valid.levels (sizes_allowed cfg valid)
+        (flat_map (group_units cfg units_of) groups) ∙
         ap (option_map (sequences_of (size_of cfg))) (groups_are_parsed groups are) ∙
         ap (λ sequences. Some sequences) (sequences_apart cfg valid units_of groups are)
 
-    -- the stream decodes to these pictures
-    pub stream_decoded : (shown_as : List Picture → ℕ → Picture) →
+    -- what is written of groups decodes to their pictures
+    module _
+        (shown_as : List Picture → ℕ → Picture)
         (same : (group : List Picture) →
-        AreDecodedTo (size_of cfg) (shown_as group) cfg (length group) (units_of group)) →
-        (pictures : List Picture) →
-        decode_of (written cfg units_of pictures) ≡
-        Some (flat_map (group_pictures cfg valid units_of shown_as same) (groups_of cfg pictures))
-    stream_decoded shown_as same pictures =
-        ap decode_of (units_joined cfg units_of pictures) ∙
-        ap (λ found. option_and_then shown_of (option_and_then parsed_units found))
-        (streams_read (stream_of (units cfg units_of pictures)) (units cfg units_of pictures)
-        (stream_of_units (units cfg units_of pictures) (all_units cfg units_of pictures))) ∙
-        ap (option_and_then shown_of) (units_parsed pictures) ∙
-        sequences_are_shown cfg valid units_of shown_as same (groups_of cfg pictures)
-        (groups_are cfg pictures valid.group_least)
+        AreDecodedTo (size_of cfg) (shown_as group) cfg (length group) (units_of group)) where
+      pub groups_decoded : (groups : List (List Picture)) → AreGroups cfg.group groups →
+          decode_of (written_with cfg units_of groups) ≡
+          Some (flat_map (group_pictures cfg valid units_of shown_as same) groups)
+      groups_decoded groups are =
+          ap decode_of (units_joined cfg units_of groups) ∙
+          ap (λ found. option_and_then shown_of (option_and_then parsed_units found))
+          (streams_read (stream_of (units_with cfg units_of groups))
+          (units_with cfg units_of groups)
+          (stream_of_units (units_with cfg units_of groups) (all_units cfg units_of groups))) ∙
+          ap (option_and_then shown_of) (units_parsed groups are) ∙
+          sequences_are_shown cfg valid units_of shown_as same groups are
+
+      -- so does the stream of a video
+      pub stream_decoded : (pictures : List Picture) →
+          decode_of (written cfg units_of pictures) ≡
+          Some (flat_map (group_pictures cfg valid units_of shown_as same) (groups_of cfg pictures))
+      stream_decoded [] = refl
+      stream_decoded (picture ∷ pictures) =
+          groups_decoded (groups_of cfg (picture ∷ pictures))
+          (groups_are cfg (picture ∷ pictures) valid.group_least)

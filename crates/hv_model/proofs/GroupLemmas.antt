@@ -12,6 +12,7 @@ use Rattle.hv_types.specs.Video.{crop}
 use Rattle.hv_model.specs.Encoding.{picture_unit, recon_picture, encode_group, group_bytes, groups_within, groups_of}
 use Rattle.hv_model.specs.EncodingLaws.{IsNextGroup, EncodingAppends, ReconstructionAppends, EncodingIgnoresSamples}
 use Rattle.hv_model.specs.RoundTrip.{EachIsReconstructed}
+use Rattle.hv_model.specs.InterStreamLaws.{AreGroups}
 
 -- ---- groups
 
@@ -83,11 +84,6 @@ groups_more cfg groups pictures group next =
     (omega (arith, length-append pictures group)) (omega arith))
 
 -- each of them has a picture, and no more than a group may have
-abbrev pub AreGroups : ℕ → List (List Picture) → Type 0
-AreGroups size [] = Unit {0}
-AreGroups size (group ∷ groups) =
-    (1 ≤ length group) × (length group ≤ size) × AreGroups size groups
-
 within_are : (most size : ℕ) (pictures : List Picture) → 1 ≤ size →
     AreGroups size (groups_within most size pictures)
 within_are most size [] some = tt
@@ -102,36 +98,55 @@ pub groups_are : (cfg : Settings) (pictures : List Picture) → 1 ≤ cfg.group 
     AreGroups cfg.group (groups_of cfg pictures)
 groups_are cfg pictures some = within_are (length pictures) cfg.group pictures some
 
--- ---- the stream
+-- ---- the stream, whatever is written for a group
 
-joined_last : (cfg : Settings) (groups : List (List Picture)) (group : List Picture) →
-    flat_map (group_bytes cfg) (groups ++ group ∷ []) ≡
-    flat_map (group_bytes cfg) groups ++ group_bytes cfg group
-joined_last cfg groups group =
-    flat_map-append (group_bytes cfg) groups (group ∷ []) ∙
-    ap (λ bytes. flat_map (group_bytes cfg) groups ++ bytes) (append-nil (group_bytes cfg group))
+pub joined_last : {A : Type 0} (written : List Picture → List A) (groups : List (List Picture))
+    (group : List Picture) →
+    flat_map written (groups ++ group ∷ []) ≡ flat_map written groups ++ written group
+joined_last written groups group =
+    flat_map-append written groups (group ∷ []) ∙
+    ap (λ last. flat_map written groups ++ last) (append-nil (written group))
+
+module _ (written : List Picture → List ℕ) (cfg : Settings) where
+  -- the first group
+  pub first_written : (groups : ℕ) (group : List Picture) → IsNextGroup cfg groups [] group →
+      parameter_sets cfg ++ flat_map written (groups_of cfg group) ≡
+      parameter_sets cfg ++ written group
+  first_written groups group next =
+      ap (λ gs. parameter_sets cfg ++ flat_map written gs) (groups_more cfg groups [] group next) ∙
+      ap (λ bytes. parameter_sets cfg ++ bytes) (append-nil (written group))
+
+  -- one more behind others
+  pub next_written : (groups : ℕ) (pictures group : List Picture) →
+      IsNextGroup cfg groups pictures group →
+      parameter_sets cfg ++ flat_map written (groups_of cfg (pictures ++ group)) ≡
+      parameter_sets cfg ++ flat_map written (groups_of cfg pictures) ++ [] ++ written group
+  next_written groups pictures group next =
+      let sets : List ℕ = parameter_sets cfg in
+      let before : List ℕ = flat_map written (groups_of cfg pictures) in
+      ap (λ gs. sets ++ flat_map written gs) (groups_more cfg groups pictures group next) ∙
+      ap (λ bytes. sets ++ bytes) (joined_last written (groups_of cfg pictures) group) ∙
+      sym (append_assoc sets before (written group)) ∙
+      ap (λ bytes. bytes ++ written group) (sym (append-nil (sets ++ before)))
+
+-- the pictures that are shown of it
+pub shown_behind : (shown : List Picture → List Picture) (cfg : Settings) (groups : ℕ)
+    (pictures group : List Picture) → IsNextGroup cfg groups pictures group →
+    flat_map shown (groups_of cfg (pictures ++ group)) ≡
+    flat_map shown (groups_of cfg pictures) ++ shown group
+shown_behind shown cfg groups pictures group next =
+    ap (flat_map shown) (groups_more cfg groups pictures group next) ∙
+    joined_last shown (groups_of cfg pictures) group
 
 pub encoding_appends : EncodingAppends
 encoding_appends cfg groups [] [] next = absurd (omega (arith, next.some))
 encoding_appends cfg groups [] (first ∷ group) next =
-    ap (λ gs. parameter_sets cfg ++ flat_map (group_bytes cfg) gs)
-    (groups_more cfg groups [] (first ∷ group) next) ∙
-    ap (λ bytes. parameter_sets cfg ++ bytes) (append-nil (group_bytes cfg (first ∷ group)))
+    first_written (group_bytes cfg) cfg groups (first ∷ group) next
 encoding_appends cfg groups (first ∷ pictures) group next =
-    let sets : List ℕ = parameter_sets cfg in
-    let before : List ℕ = flat_map (group_bytes cfg) (groups_of cfg (first ∷ pictures)) in
-    ap (λ gs. sets ++ flat_map (group_bytes cfg) gs)
-    (groups_more cfg groups (first ∷ pictures) group next) ∙
-    ap (λ bytes. sets ++ bytes) (joined_last cfg (groups_of cfg (first ∷ pictures)) group) ∙
-    sym (append_assoc sets before (group_bytes cfg group)) ∙
-    ap (λ bytes. bytes ++ group_bytes cfg group) (sym (append-nil (sets ++ before)))
+    next_written (group_bytes cfg) cfg groups (first ∷ pictures) group next
 
 pub reconstruction_appends : ReconstructionAppends
-reconstruction_appends cfg groups pictures group next =
-    let shown : List Picture → List Picture = λ g. (encode_group cfg g).shown in
-    ap (flat_map shown) (groups_more cfg groups pictures group next) ∙
-    flat_map-append shown (groups_of cfg pictures) (group ∷ []) ∙
-    ap (λ ps. flat_map shown (groups_of cfg pictures) ++ ps) (append-nil (shown group))
+reconstruction_appends cfg = shown_behind (λ group. (encode_group cfg group).shown) cfg
 
 -- ---- samples
 

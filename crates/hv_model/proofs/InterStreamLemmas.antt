@@ -18,12 +18,13 @@ use Rattle.hv_model.specs.Reconstruction.{DecodedPicture}
 use Rattle.hv_model.specs.Decoding.{decode_of}
 use Rattle.hv_model.specs.InterPictures.{coded_units, recon_picture, source_behind, recon_within, recon_at, source_at, picture_shown, encode_group, encode_of}
 use Rattle.hv_model.specs.InterLaws.{PicturesFollowTheirReferences, InterStreamsAreDecoded, EachInterPictureIsShown}
+use Rattle.hv_model.specs.InterStreamLaws.{InterGroupsAreDecoded}
 use Rattle.hv_model.proofs.GroupLemmas.{groups_reconstructed}
 use Rattle.hv_model.proofs.MembershipLemmas.{Among, among_first, among_behind, among_passes}
 use Rattle.hv_model.proofs.ReferenceLemmas.{list_named, others_of, set_of_kept}
 use Rattle.hv_model.proofs.KeepingLemmas.{AreDecodedTo}
 use Rattle.hv_model.proofs.WrittenUnitLemmas.{written}
-use Rattle.hv_model.proofs.DecodedStreamLemmas.{stream_decoded}
+use Rattle.hv_model.proofs.DecodedStreamLemmas.{groups_decoded, stream_decoded}
 use Rattle.hv_model.proofs.InterUnitLemmas.{inter_units_valid, inter_decoded}
 
 -- ---- list 0 comes before a picture in coding order
@@ -132,6 +133,13 @@ module _
       stream_decoded reads_other codable_other allowed cfg valid (units_of cfg)
       (λ group k. inter_units_valid cfg (source_at cfg group k))
       (recon_at cfg) (all_decoded cfg) pictures
+
+  -- whichever groups it has
+  pub inter_groups_decoded : InterGroupsAreDecoded
+  inter_groups_decoded cfg groups valid are =
+      groups_decoded reads_other codable_other allowed cfg valid (units_of cfg)
+      (λ group k. inter_units_valid cfg (source_at cfg group k))
+      (recon_at cfg) (all_decoded cfg) groups are
 
 pub each_shown : EachInterPictureIsShown
 each_shown cfg pictures =

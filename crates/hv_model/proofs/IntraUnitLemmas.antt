@@ -94,7 +94,7 @@ module _ (cfg : Settings) (header : SliceHeader) (input : Picture) where
       valid_trees (picture_task cfg header input) (picture_sites cfg) [] (nothing_decoded [])
 
   -- no unit is predicted from another picture
-  are_intra : AreTrees I 0 (picture_sites cfg) (chosen_trees cfg header input)
+  pub are_intra : AreTrees I 0 (picture_sites cfg) (chosen_trees cfg header input)
   are_intra =
       valid_intra_trees I 0 (picture_task cfg header input) (picture_sites cfg) []
       (nothing_decoded []) refl

@@ -20,8 +20,15 @@ pub mod PlannedLevelLemmas
 pub mod PlannedSquareLemmas
 pub mod IntraTreeLemmas
 pub mod PlannedIntraLemmas
+pub mod PlannedVectorLemmas
 pub mod IntraGroupLemmas
+pub mod InterGroupLemmas
 mod BlankChoiceLemmas
+pub mod ISliceLemmas
+pub mod InterCaseLemmas
+pub mod BlankCaseLemmas
+pub mod BuiltCaseLemmas
+pub mod InterPieceLemmas
 mod WorkedSequences
 mod WorkedGroups
 mod WorkedStreams
@@ -29,3 +36,4 @@ mod WorkedRefusals
 mod WorkedPictures
 mod WorkedIntraStreams
 mod WorkedInterStreams
+mod WorkedInterGroups

@@ -38,14 +38,11 @@ module _ (cfg : Settings) (units_of : List Picture → ℕ → List CodingTreeUn
   abbrev pub group_units : List Picture → List NalUnit
   group_units group = map (slice_unit group) (coding (length group) cfg.levels)
 
-  abbrev pub units_after_sets : List Picture → List NalUnit
-  units_after_sets pictures = flat_map group_units (groups_of cfg pictures)
-
-  abbrev pub units : List Picture → List NalUnit
-  units [] = []
-  units (picture ∷ pictures) =
+  -- behind the parameter sets the units of these groups
+  abbrev pub units_with : List (List Picture) → List NalUnit
+  units_with groups =
       set_unit 32 (vps cfg.levels) ∷ set_unit 33 (sps cfg.levels (size_of cfg)) ∷
-      set_unit 34 pps ∷ units_after_sets (picture ∷ pictures)
+      set_unit 34 pps ∷ flat_map group_units groups
 
   -- what is written
   abbrev pub group_written : List Picture → List ℕ
@@ -53,10 +50,12 @@ module _ (cfg : Settings) (units_of : List Picture → ℕ → List CodingTreeUn
       flat_map (λ bytes. bytes)
       (map (λ c. unit_bytes (slice_unit group c)) (coding (length group) cfg.levels))
 
+  abbrev pub written_with : List (List Picture) → List ℕ
+  written_with groups = parameter_sets cfg ++ flat_map group_written groups
+
   abbrev pub written : List Picture → List ℕ
   written [] = []
-  written (picture ∷ pictures) =
-      parameter_sets cfg ++ flat_map group_written (groups_of cfg (picture ∷ pictures))
+  written (picture ∷ pictures) = written_with (groups_of cfg (picture ∷ pictures))
 
 -- ---- the stream
 
@@ -88,16 +87,14 @@ module _ (cfg : Settings) (units_of : List Picture → ℕ → List CodingTreeUn
       sym
       (stream-append (group_units cfg units_of group) (flat_map (group_units cfg units_of) groups))
 
-  pub units_joined : (pictures : List Picture) →
-      written cfg units_of pictures ≡ stream_of (units cfg units_of pictures)
-  units_joined [] = refl
-  units_joined (picture ∷ pictures) =
+  pub units_joined : (groups : List (List Picture)) →
+      written_with cfg units_of groups ≡ stream_of (units_with cfg units_of groups)
+  units_joined groups =
       let video : List ℕ = unit_bytes (set_unit 32 (vps cfg.levels)) in
       let sequence : List ℕ = unit_bytes (set_unit 33 (sps cfg.levels (size_of cfg))) in
       let parameters : List ℕ = unit_bytes (set_unit 34 pps) in
-      let all : List (List Picture) = groups_of cfg (picture ∷ pictures) in
-      three_and video sequence parameters (flat_map (group_written cfg units_of) all) ∙
-      ap (λ bytes. video ++ (sequence ++ (parameters ++ bytes))) (groups_joined all)
+      three_and video sequence parameters (flat_map (group_written cfg units_of) groups) ∙
+      ap (λ bytes. video ++ (sequence ++ (parameters ++ bytes))) (groups_joined groups)
 
 -- ---- they are units
 
@@ -141,16 +138,12 @@ module _ (cfg : Settings) (units_of : List Picture → ℕ → List CodingTreeUn
       group_are_units group (coding (length group) cfg.levels)
       (flat_map (group_units cfg units_of) groups) (groups_are_units groups)
 
-  pub all_units : (pictures : List Picture) → AreUnits (units cfg units_of pictures)
-  all_units [] = tt
-  all_units (picture ∷ pictures) = (
+  pub all_units : (groups : List (List Picture)) → AreUnits (units_with cfg units_of groups)
+  all_units groups = (
     set_is_unit 32 (vps cfg.levels) (omega arith),
     (
       set_is_unit 33 (sps cfg.levels (size_of cfg)) (omega arith),
-      (
-        set_is_unit 34 pps (omega arith),
-        groups_are_units (groups_of cfg (picture ∷ pictures)),
-      ),
+      (set_is_unit 34 pps (omega arith), groups_are_units groups),
     ),
   )
 

@@ -13,3 +13,6 @@ pub mod PlannedPictures
 pub mod IntraEncodingLaws
 pub mod InterPictures
 pub mod InterLaws
+pub mod InterEncodingLaws
+pub mod InterStreamLaws
+pub mod InterCases

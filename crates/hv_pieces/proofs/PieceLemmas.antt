@@ -9,8 +9,8 @@ use Rattle.hv_types.specs.declared.picture.Picture.{Picture}
 use Rattle.hv_stream_model.specs.Headers.{parameter_sets}
 use Rattle.hv_model.specs.Encoding.{groups_of}
 use Rattle.hv_model.specs.EncodingLaws.{IsNextGroup}
-use Rattle.hv_model.specs.IntraEncodingLaws.{IntraEncodingAppends, IntraReconstructionAppends}
-use Rattle.hv_model.specs.IntraPictures.{encode_group, encode_of, group_bytes, recon_of}
+use Rattle.hv_model.specs.InterEncodingLaws.{InterEncodingAppends, InterReconstructionAppends}
+use Rattle.hv_model.specs.InterPictures.{encode_group, encode_of, group_bytes, recon_of}
 use Rattle.hv_pieces.specs.Pieces.{AreWholeGroups, without_sets, StreamsBeginWithSets, StreamsAreJoined, ReconstructionsAreJoined, AreCutAtGroups, joined, ManyStreamsAreJoined}
 
 positive : (n g : ℕ) → 0 < n * g → 0 < g
@@ -79,7 +79,7 @@ module _ {A : Type 0} (cfg : Settings) (some : 0 < cfg.group) (made : List Pictu
 
 -- ---- reconstructed pictures
 
-pub reconstructions_are_joined : IntraReconstructionAppends → ReconstructionsAreJoined
+pub reconstructions_are_joined : InterReconstructionAppends → ReconstructionsAreJoined
 reconstructions_are_joined law cfg front behind h =
     joined_at_groups cfg (group_has cfg front h) (recon_of cfg)
     (λ group. (encode_group cfg group).shown) refl (law cfg) front behind h
@@ -112,7 +112,7 @@ streams_begin_with_sets cfg (picture ∷ pictures) some =
     take-append_seam (parameter_sets cfg)
     (flat_map (group_bytes cfg) (groups_of cfg (picture ∷ pictures)))
 
-module _ (law : IntraEncodingAppends) (cfg : Settings) where
+module _ (law : InterEncodingAppends) (cfg : Settings) where
   abbrev sets : List ℕ
   sets = parameter_sets cfg
 
@@ -145,7 +145,7 @@ module _ (law : IntraEncodingAppends) (cfg : Settings) where
       sym (append_assoc sets (body cfg (picture ∷ pictures)) (body cfg behind)) ∙
       ap (λ x. x ++ body cfg behind) (sym (sets_in_front cfg picture pictures))
 
-pub streams_are_joined : IntraEncodingAppends → StreamsAreJoined
+pub streams_are_joined : InterEncodingAppends → StreamsAreJoined
 unfolding body
 streams_are_joined law cfg front behind h = streams_joined law cfg front behind h
 

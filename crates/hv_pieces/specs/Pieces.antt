@@ -5,7 +5,7 @@ use Rattle.hv_types.specs.declared.picture.Picture.{Picture}
 use Rattle.hv_types.specs.Configuration.{IsValid}
 use Rattle.hv_stream_model.specs.Headers.{parameter_sets}
 use Rattle.hv_model.specs.Decoding.{decode_of}
-use Rattle.hv_model.specs.IntraPictures.{encode_of, recon_of}
+use Rattle.hv_model.specs.InterPictures.{encode_of, recon_of}
 
 -- some pictures, which are so many whole groups
 pub record AreWholeGroups (cfg : Settings) (pictures : List Picture) : Type 0 where

@@ -4,7 +4,7 @@
 
 ghost use Rattle.hv_pieces.specs.Pieces.{StreamsBeginWithSets, StreamsAreJoined, ReconstructionsAreJoined, JoinedStreamsAreDecoded, ManyStreamsAreJoined};
 
-use hv_model::{intra_encoding_appends, intra_reconstruction_appends, intra_streams_are_decoded};
+use hv_model::{inter_encoding_appends, inter_reconstruction_appends, inter_streams_are_decoded};
 
 /// The stream of pictures, of which there is one at least, begins with the parameter sets (7.3.2),
 /// which depend on the settings alone.
@@ -17,14 +17,14 @@ pub fn streams_begin_with_sets()
 pub fn streams_are_joined()
     ensures { StreamsAreJoined }
 {
-    intra_encoding_appends();
+    inter_encoding_appends();
 }
 
 /// The reconstructed pictures are those of the groups, and then those of the pictures behind.
 pub fn reconstructions_are_joined()
     ensures { ReconstructionsAreJoined }
 {
-    intra_reconstruction_appends();
+    inter_reconstruction_appends();
 }
 
 /// With valid settings, the streams so joined decode (clauses 7 to 9 and Annex B) to the
@@ -34,7 +34,7 @@ pub fn joined_streams_are_decoded()
 {
     streams_are_joined();
     reconstructions_are_joined();
-    intra_streams_are_decoded();
+    inter_streams_are_decoded();
 }
 
 /// The stream of a video that is cut into pieces, of which each but the last one is whole groups,

@@ -6,5 +6,5 @@ use Rattle.hv_pieces.proofs.joined_streams_are_decoded.Goals as goal
 pub returns : goal.returns
 returns c cfg front behind valid whole =
     ap decode_of (sym (c.streams_are_joined.ensures cfg front behind whole))
-    ∙ c.intra_streams_are_decoded.ensures cfg (front ++ behind) valid
+    ∙ c.inter_streams_are_decoded.ensures cfg (front ++ behind) valid
     ∙ ap Some (c.reconstructions_are_joined.ensures cfg front behind whole)

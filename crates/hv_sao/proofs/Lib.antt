@@ -1,5 +1,6 @@
 mod AddLemmas
 pub mod AreaLemmas
+mod BandLemmas
 mod CandidateLemmas
 mod ChosenLemmas
 pub mod CostLemmas

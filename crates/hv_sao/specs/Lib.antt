@@ -1,4 +1,5 @@
 pub mod Areas
+pub mod Bands
 pub mod Components
 pub mod Decisions
 pub mod Planes

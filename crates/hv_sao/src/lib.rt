@@ -3,6 +3,7 @@
 #![tactic(auto)]
 
 mod apply;
+mod bands;
 mod block;
 mod candidate;
 mod candidates;

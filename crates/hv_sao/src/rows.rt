@@ -2,23 +2,13 @@
 
 ghost use Rattle.std.specs.Prelude.{◌≡◌, ℕ, ◌-◌, ◌+◌, ◌<◌, ◌≤◌, List, length};
 ghost use Rattle.hv_filter_model.specs.SampleAdaptiveOffset.{sao_sample, IsKind};
-ghost use Rattle.hv_sao.specs.Rows.{IsRow, HasPart, BeginsPart, band_sample, edge_sample};
+ghost use Rattle.hv_sao.specs.Rows.{IsRow, HasPart, BeginsPart, edge_sample};
 
+use crate::bands::fill_bands;
 use crate::edges::{EdgeRow, edge_row, part_of_row};
-use crate::samples::{VECTOR, band_category, edge_category, shown_sample};
+use crate::samples::{VECTOR, edge_category, shown_sample};
 use hv_plan::{SaoComponent, SaoKind};
 use hv_types::Plane;
-
-/// Samples with the offsets of their bands.
-fn fill_bands(samples: &[u8], position: u8, component: SaoComponent, out: &mut [u8])
-    requires position { position < 32 }
-    requires room { length out.old ≡ length samples.now }
-    ensures { IsRow (band_sample component position samples.now) out.new }
-{
-    for i in 0..samples.len() {
-        out[i] = shown_sample(component, samples[i], band_category(samples[i], position));
-    }
-}
 
 /// Samples of a row from place `from` on, before place `to`, with the offsets of their edges,
 /// beside their two neighbours. The row begins at place `lead` of `out`.

@@ -1,0 +1,127 @@
+//! Samples of a row with the offsets of their bands, sixteen at a time.
+//!
+//! By how much each of the four bands raises and lowers its samples stands in two vectors, with
+//! nothing for all other bands behind them. A lane takes its own from there by its band's place.
+
+ghost use Rattle.std.specs.Prelude.{◌≡◌, ℕ, ◌+◌, ◌<◌, ◌≤◌, length, slice_index_or};
+ghost use Rattle.hv_plan.specs.declared.offsets.SaoComponent.{SaoComponent};
+ghost use Rattle.hv_sao.specs.Bands.{raise, lower, band_place, raised_lowered, AreMade};
+ghost use Rattle.hv_sao.specs.Rows.{IsRow, HasPart, band_sample};
+
+use crate::samples::{VECTOR, band_category, shown_sample};
+use hv_plan::SaoComponent;
+use std::simd::prelude::*;
+
+/// By how much an offset raises samples.
+#[inline(always)]
+fn raise(offset: i8) -> u8
+    ensures { result ≡ raise offset }
+{
+    offset.max(0) as u8
+}
+
+/// By how much an offset lowers samples.
+#[inline(always)]
+fn lower(offset: i8) -> u8
+    ensures { result ≡ lower offset }
+{
+    offset.min(0).unsigned_abs()
+}
+
+/// By how much each of the four bands raises its samples.
+#[inline(always)]
+fn raises(offsets: [i8; 4]) -> u8x16
+    ensures { AreMade raise offsets result }
+{
+    let [a, b, c, d] = offsets;
+    let (a, b, c, d) = (raise(a), raise(b), raise(c), raise(d));
+    u8x16::from_array([a, b, c, d, 0, 0, 0, 0, 0, 0, 0, 0, 0, 0, 0, 0])
+}
+
+/// By how much each of the four bands lowers its samples.
+#[inline(always)]
+fn lowers(offsets: [i8; 4]) -> u8x16
+    ensures { AreMade lower offsets result }
+{
+    let [a, b, c, d] = offsets;
+    let (a, b, c, d) = (lower(a), lower(b), lower(c), lower(d));
+    u8x16::from_array([a, b, c, d, 0, 0, 0, 0, 0, 0, 0, 0, 0, 0, 0, 0])
+}
+
+/// How many bands behind the first of the four each sample's lies, at most 4.
+#[inline(always)]
+fn places(samples: u8x16, position: u8) -> u8x16
+    requires { position < 32 }
+    ensures { (i : ℕ) → i < 16 →
+        slice_index_or result i 0 ≡ band_place position (slice_index_or samples i 0) }
+{
+    let behind = (samples - u8x16::splat(8 * position)) >> u8x16::splat(3);
+    behind.simd_min(u8x16::splat(4))
+}
+
+/// What stands at each of these places.
+#[inline(always)]
+fn taken(made: u8x16, places: u8x16) -> u8x16
+    requires { (i : ℕ) → i < 16 → slice_index_or places i 0 < 16 }
+    ensures { (i : ℕ) → i < 16 →
+        slice_index_or result i 0 ≡ slice_index_or made (slice_index_or places i 0) 0 }
+{
+    made.swizzle_dyn(places)
+}
+
+/// Samples that are raised, then lowered, each cut to a byte.
+#[inline(always)]
+fn raised_lowered(samples: u8x16, up: u8x16, down: u8x16) -> u8x16
+    ensures count { length result ≡ 16 }
+    ensures lanes { (i : ℕ) → i < 16 → slice_index_or result i 0 ≡ raised_lowered
+        (slice_index_or samples i 0) (slice_index_or up i 0) (slice_index_or down i 0) }
+{
+    samples.saturating_add(up).saturating_sub(down)
+}
+
+/// Writes the sixteen samples from place `at` on, where bands raise and lower them so.
+#[inline(always)]
+fn put_sixteen(samples: &[u8], at: usize, position: u8, up: u8x16, down: u8x16, out: &mut [u8])
+    requires position { position < 32 }
+    requires inside { at + 16 ≤ length samples.now }
+    requires room { length out.old ≡ length samples.now }
+    ensures { (component : SaoComponent) → AreMade raise component.offsets up →
+        AreMade lower component.offsets down → HasPart at 16
+        (λ i. band_sample component position samples.now (at + i)) out.old out.new }
+{
+    let sixteen = u8x16::from_slice(&samples[at..at + VECTOR]);
+    let places = places(sixteen, position);
+    raised_lowered(sixteen, taken(up, places), taken(down, places)).copy_to_slice(
+        &mut out[at..at + VECTOR],
+    );
+}
+
+/// Samples of a row that has fewer than sixteen, with the offsets of their bands.
+fn put_few_bands(samples: &[u8], position: u8, component: SaoComponent, out: &mut [u8])
+    requires position { position < 32 }
+    requires room { length out.old ≡ length samples.now }
+    ensures { IsRow (band_sample component position samples.now) out.new }
+{
+    for i in 0..samples.len() {
+        out[i] = shown_sample(component, samples[i], band_category(samples[i], position));
+    }
+}
+
+/// Samples of a row with the offsets of their bands. The last sixteen may overlap those before.
+pub(crate) fn fill_bands(samples: &[u8], position: u8, component: SaoComponent, out: &mut [u8])
+    requires position { position < 32 }
+    requires room { length out.old ≡ length samples.now }
+    ensures { IsRow (band_sample component position samples.now) out.new }
+{
+    let count = samples.len();
+    if count < VECTOR {
+        put_few_bands(samples, position, component, out);
+    } else {
+        let up = raises(component.offsets);
+        let down = lowers(component.offsets);
+        for g in 0..(count - 1) / VECTOR {
+            put_sixteen(samples, VECTOR * g, position, up, down, out);
+        }
+        put_sixteen(samples, count - VECTOR, position, up, down, out);
+    }
+}

@@ -21,8 +21,9 @@ use Rattle.hv_plan.specs.declared.prediction.Mv.{Mv}
 use Rattle.hv_search_model.specs.MotionSearch.{vector, around, Score, least_around, moved_sample}
 use Rattle.hv_search.specs.Windows.{Shows, nearest_sample}
 use Rattle.hv_search.specs.declared.best.Best.{Best}
-use Rattle.hv_search.specs.Coarse.{IsMask, block_score, vector_in, IsBest}
+use Rattle.hv_search.specs.Coarse.{IsMask, masked_sum, four_sums, block_score, vector_in, IsBest}
 use Rattle.hv_search.proofs.FullLemmas.{sad_of_runs}
+use Rattle.hv_search.proofs.SadLemmas.{sad_of_four}
 
 pub total_of_none : (f : ℕ → ℕ) → total_of 0 f ≡ 0
 unfolding total_of
@@ -56,7 +57,7 @@ sad_of_lists xs ys n e f =
     (λ i below. ap (λ k. abs_diff (get_or xs k 0) (get_or ys k 0)) (at_0 i))
 
 -- a row of a block against a masked one
-pub masked_row : (source window mask : List ℕ) (a b columns : ℕ) → columns ≤ 16 → length mask ≡ 16 → IsMask columns mask →
+masked_row : (source window mask : List ℕ) (a b columns : ℕ) → columns ≤ 16 → length mask ≡ 16 → IsMask columns mask →
     a + 16 ≤ length source → b + 16 ≤ length window → ((k : ℕ) → get_or window k 0 < 256) →
     ((i : ℕ) → columns ≤ i → i < 16 → get_or source (a + i) 0 ≡ 0) →
     sad_of (take 16 (drop a source)) (zip2 min (take 16 (drop b window)) mask) ≡
@@ -90,6 +91,70 @@ masked_row source window mask a b columns few long is_mask p q bytes none =
         ap₂ abs_diff (get_or-take 16 (drop a source) i 0 below ∙ get_or-drop a source i 0)
         (get_or-zip2 min ys mask i 0 0 0 (omega (arith, below, long_ys)) (omega (arith, below, long)) ∙
         ap (λ v. min v (get_or mask i 0)) (get_or-take 16 (drop b window) i 0 below ∙ get_or-drop b window i 0))
+
+-- four rows that are joined
+pub four_sums_joined : (source mask : List ℕ) (a : ℕ) (window : List ℕ) (b : ℕ) → length mask ≡ 16 →
+    a + 64 ≤ length source → b + 160 ≤ length window →
+    sad_of ((take 16 (drop a source) ++ take 16 (drop (a + 16) source)) ++
+    (take 16 (drop (a + 2 * 16) source) ++ take 16 (drop (a + 3 * 16) source)))
+    ((zip2 min (take 16 (drop b window)) mask ++ zip2 min (take 16 (drop (b + 48) window)) mask) ++
+    (zip2 min (take 16 (drop (b + 96) window)) mask ++ zip2 min (take 16 (drop (b + 144) window)) mask)) ≡
+    four_sums source mask a window b
+four_sums_joined source mask a window b long p q =
+    sad_of_four (take 16 (drop a source)) (take 16 (drop (a + 16) source)) (take 16 (drop (a + 32) source)) (take 16 (drop (a + 48) source))
+    (row b) (row (b + 48)) (row (b + 96)) (row (b + 144))
+    (length-chunk a 16 source (omega (arith, p)) ∙ sym (long_row b (omega (arith, q))))
+    (length-chunk (a + 16) 16 source (omega (arith, p)) ∙ sym (long_row (b + 48) (omega (arith, q))))
+    (length-chunk (a + 32) 16 source (omega (arith, p)) ∙ sym (long_row (b + 96) (omega (arith, q))))
+  where
+    row : ℕ → List ℕ
+    row at = zip2 min (take 16 (drop at window)) mask
+
+    long_row : (at : ℕ) → at + 16 ≤ length window → length (row at) ≡ 16
+    long_row at inside =
+        let all : length (take 16 (drop at window)) ≡ 16 = length-chunk at 16 window inside in
+        length-zip2 min (take 16 (drop at window)) mask (all ∙ sym long) ∙ all
+
+-- four rows more
+pub total_of_four_more : (f : ℕ → ℕ) (k : ℕ) →
+    total_of (4 * (k + 1)) f ≡
+    total_of (4 * k) f + ((f (4 * k) + f (4 * k + 1)) + (f (4 * k + 2) + f (4 * k + 3)))
+total_of_four_more f k =
+    let all : 4 * (k + 1) ≡ 4 * k + 3 + 1 = omega arith in
+    let second : total_of (4 * k + 2) f ≡ total_of (4 * k + 1) f + f (4 * k + 1) =
+    ap (λ n. total_of n f) (omega arith) ∙ total_more (4 * k + 1) f in
+    let third : total_of (4 * k + 3) f ≡ total_of (4 * k + 2) f + f (4 * k + 2) =
+    ap (λ n. total_of n f) (omega arith) ∙ total_more (4 * k + 2) f in
+    ap (λ n. total_of n f) all ∙
+    omega (arith, total_more (4 * k) f, second, third, total_more (4 * k + 3) f)
+
+module _ (source window mask : List ℕ) (at columns rows : ℕ) (few : columns ≤ 16) (long : length mask ≡ 16)
+    (is_mask : IsMask columns mask) (room : 16 * rows ≤ length source) (ahead : at + 736 ≤ length window) (most : rows ≤ 16)
+    (bytes : (k : ℕ) → get_or window k 0 < 256)
+    (none : (k : ℕ) → k < 16 * rows → columns ≤ k % 16 → get_or source k 0 ≡ 0) where
+  abbrev pub row_sum : ℕ → ℕ
+  row_sum j = total_of columns (λ i. abs_diff (get_or source (16 * j + i) 0) (get_or window (at + 48 * j + i) 0))
+
+  -- row j, by the places at which it begins
+  pub row_at : (j a b : ℕ) → j < rows → a ≡ 16 * j → b ≡ at + 48 * j →
+      masked_sum source mask a window b ≡ row_sum j
+  row_at j a b below e f =
+      ap₂ (λ a b. masked_sum source mask a window b) e f ∙
+      masked_row source window mask (16 * j) (at + 48 * j) columns few long is_mask
+      (omega (arith, room, below)) (omega (arith, ahead, below, most)) bytes
+      (λ i from to. none (16 * j + i) (omega (arith, to, below)) (omega (arith, from, to)))
+
+  pub four_rows_at : (k : ℕ) → 4 * k + 4 ≤ rows →
+      four_sums source mask (64 * k) window (at + 192 * k) ≡
+      (row_sum (4 * k) + row_sum (4 * k + 1)) + (row_sum (4 * k + 2) + row_sum (4 * k + 3))
+  four_rows_at k inside =
+      ap₂ (λ u v. u + v)
+      (ap₂ (λ u v. u + v)
+      (row_at (4 * k) (64 * k) (at + 192 * k) (omega (arith, inside)) (omega arith) (omega arith))
+      (row_at (4 * k + 1) (64 * k + 16) (at + 192 * k + 48) (omega (arith, inside)) (omega arith) (omega arith)))
+      (ap₂ (λ u v. u + v)
+      (row_at (4 * k + 2) (64 * k + 32) (at + 192 * k + 96) (omega (arith, inside)) (omega arith) (omega arith))
+      (row_at (4 * k + 3) (64 * k + 48) (at + 192 * k + 144) (omega (arith, inside)) (omega arith) (omega arith)))
 
 -- ---- the best of places
 

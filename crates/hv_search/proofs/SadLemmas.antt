@@ -6,7 +6,7 @@ use Rattle.hv_kernel.specs.Differences.{sad_of}
 use Rattle.hv_search.specs.Nodes.{woven_sad}
 use Rattle.hv_kernel.proofs.PairLemmas.{sum_of_pairs-append}
 
-sad_of_four : (a b c d e f g h : List ℕ) → length a ≡ length e → length b ≡ length f → length c ≡ length g → sad_of ((a ++ b) ++ (c ++ d)) ((e ++ f) ++ (g ++ h)) ≡ (sad_of a e + sad_of b f) + (sad_of c g + sad_of d h)
+pub sad_of_four : (a b c d e f g h : List ℕ) → length a ≡ length e → length b ≡ length f → length c ≡ length g → sad_of ((a ++ b) ++ (c ++ d)) ((e ++ f) ++ (g ++ h)) ≡ (sad_of a e + sad_of b f) + (sad_of c g + sad_of d h)
 sad_of_four a b c d e f g h p q r =
     let upper = sum_of_pairs-append abs_diff a b e f p in
     let lower = sum_of_pairs-append abs_diff c d g h r in

@@ -1,16 +1,18 @@
 //! The coarse stage: whole samples of the pictures of quarter size, for a coding tree block.
-ghost use Rattle.std.specs.Prelude.{◌≡◌, ℕ, ◌+◌, ◌-◌, ◌*◌, ◌/◌, ◌%◌, ◌<◌, ◌≤◌, cond, nat_lt, length, pos, ◌-ℤ◌, slice_index};
+ghost use Rattle.std.specs.Prelude.{◌≡◌, ℕ, ◌+◌, ◌-◌, ◌*◌, ◌/◌, ◌%◌, ◌<◌, ◌≤◌, cond, nat_lt, min, length, take, drop, pos, ◌-ℤ◌, slice_index};
 ghost use Rattle.std.specs.Int.{abs_diff};
+ghost use Rattle.std.specs.Simd.Lanes.{zip2};
 ghost use Rattle.hv_types.specs.Samples.{sample_at};
 ghost use Rattle.hv_sample_model.specs.Blocks.{total_of};
 ghost use Rattle.hv_search_model.specs.MotionSearch.{vector, least_around};
 ghost use Rattle.hv_interp.specs.Filters.{HasFirst};
 ghost use Rattle.hv_search.specs.Windows.{plane_of_grid};
-ghost use Rattle.hv_search.specs.Coarse.{block_score, vector_in, IsMask};
+ghost use Rattle.hv_search.specs.Coarse.{block_score, vector_in, IsMask, four_sums};
 
 use crate::best::{Best, better};
 use crate::grid::Grid;
-use crate::lanes::{load, masked, sad_of_lanes};
+use crate::lanes::{join_16, join_32, load, masked, sad_of_lanes};
+use crate::nodes::four_runs;
 use crate::window::{copy_window, corner};
 use hv_plan::Mv;
 use std::simd::prelude::*;
@@ -70,8 +72,38 @@ fn put_source(
     }
 }
 
+/// The 16 samples of a window from place `at` on, and 0 behind the columns of a block.
+#[inline(always)]
+fn masked_row(window: &[u8; 2304], at: usize, mask: u8x16) -> u8x16
+    requires { at + 16 ≤ 2304 }
+    ensures { result ≡ zip2 min (take 16 (drop at window.now)) mask }
+{
+    masked(load::<16>(window, at), mask)
+}
+
+/// The sum of absolute differences of four rows of a block, from place `from` on, and those from
+/// `at` on in a window of 48 columns.
+#[inline(always)]
+fn sum_of_four(source: &[u8; 256], mask: u8x16, from: usize, window: &[u8; 2304], at: usize) -> u32
+    requires source { from + 64 ≤ 256 }
+    requires window { at + 160 ≤ 2304 }
+    ensures value { result ≡ four_sums source.now mask from window.now at }
+    ensures small { result ≤ 255 * 64 }
+{
+    let upper = join_16(
+        masked_row(window, at, mask),
+        masked_row(window, at + 48, mask),
+    );
+    let lower = join_16(
+        masked_row(window, at + 96, mask),
+        masked_row(window, at + 144, mask),
+    );
+    sad_of_lanes(four_runs(source, from, 16), join_32(upper, lower))
+}
+
 /// The sum of absolute differences of the rows of a block and those from `at` on in a window of 48
-/// columns. The number of rows comes by reference, so that the compiler doesn't unroll the loop.
+/// columns, four rows a step. The number of rows comes by reference, so that the compiler doesn't
+/// unroll the loops.
 #[inline(never)]
 fn coarse_sum(
     source: &[u8; 256],
@@ -92,10 +124,12 @@ fn coarse_sum(
         (slice_index window.now (at + 48 * j + i)))) }
 {
     let mut sum = 0;
-    for j in 0..*rows {
+    for k in 0..*rows / 4 {
+        sum += sum_of_four(source, mask, 64 * k, window, at + 192 * k);
+    }
+    for j in *rows / 4 * 4..*rows {
         let first = load::<16>(source, 16 * j);
-        let second = masked(load::<16>(window, at + 48 * j), mask);
-        sum += sad_of_lanes(first, second);
+        sum += sad_of_lanes(first, masked_row(window, at + 48 * j, mask));
     }
     sum
 }

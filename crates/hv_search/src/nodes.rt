@@ -50,7 +50,7 @@ pub(crate) fn row_of(place: usize) -> usize
 
 /// Four runs of 16 samples, `step` samples apart.
 #[inline(always)]
-fn four_runs(samples: &[u8], at: usize, step: usize) -> u8x64
+pub(crate) fn four_runs(samples: &[u8], at: usize, step: usize) -> u8x64
     requires few { step ≤ 320 }
     requires inside { at + 3 * step + 16 ≤ length samples.now }
     ensures { result ≡

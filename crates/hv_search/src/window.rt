@@ -1,5 +1,5 @@
 //! Windows onto planes, where coordinates outside stand for the nearest inside.
-ghost use Rattle.std.specs.Prelude.{◌≡◌, ℕ, ◌+◌, ◌*◌, ◌/◌, ◌<◌, ◌≤◌, length, pos, ◌+ℤ◌, ◌-ℤ◌, slice_index_or};
+ghost use Rattle.std.specs.Prelude.{◌≡◌, ℕ, ◌+◌, ◌*◌, ◌/◌, ◌<◌, ◌≤◌, true, length, pos, ◌+ℤ◌, ◌-ℤ◌, slice_index_or};
 ghost use Rattle.std.specs.Int.RustNames.{unsigned_abs};
 ghost use Rattle.hv_types.specs.Samples.{sample_at};
 ghost use Rattle.hv_search_model.specs.MotionSearch.{nearest, quarter_size};
@@ -56,9 +56,33 @@ pub(crate) fn place_near(coordinate: i64, ahead: usize, side: u32) -> usize
     (coordinate + ahead as i64).clamp(0, i64::from(side - 1)) as usize
 }
 
-/// Fills a row with the samples of row `row` from column `x` on.
+/// Whether so many columns from `x` on lie inside a picture of this width.
 #[inline(always)]
-fn put_row(grid: Grid, x: i64, row: usize, out: &mut [u8])
+fn lies_inside(x: i64, count: usize, width: u32) -> bool
+    requires near { unsigned_abs x ≤ 8589934592 }
+    requires most { count ≤ 80 }
+    ensures from { result ≡ true → x ≡ pos (unsigned_abs x) }
+    ensures to { result ≡ true → unsigned_abs x + count ≤ width }
+{
+    0 <= x && x + count as i64 <= i64::from(width)
+}
+
+/// Fills a row with the samples of row `row` from column `column` on, all of which it has.
+#[inline(always)]
+fn copy_row(grid: Grid, column: usize, row: usize, out: &mut [u8])
+    requires across { column + length out.old ≤ grid.width }
+    requires down { row < grid.height }
+    ensures count { length out.new ≡ length out.old }
+    ensures each { (i : ℕ) → i < length out.old → slice_index_or out.new i 0 ≡
+        sample_at (plane_of_grid grid.entry) (column + i) row }
+{
+    let start = row * grid.width as usize + column;
+    out.copy_from_slice(&grid.samples[start..start + out.len()]);
+}
+
+/// Fills a row with the samples of row `row` from column `x` on, the nearest one where it has none.
+#[inline(always)]
+fn put_near(grid: Grid, x: i64, row: usize, out: &mut [u8])
     requires near { unsigned_abs x ≤ 8589934592 }
     requires down { row < grid.height }
     requires most { length out.old ≤ 80 }
@@ -69,6 +93,24 @@ fn put_row(grid: Grid, x: i64, row: usize, out: &mut [u8])
     let start = row * grid.width as usize;
     for i in 0..out.len() {
         out[i] = grid.samples[start + place_near(x, i, grid.width)];
+    }
+}
+
+/// Fills a row with the samples of row `row` from column `x` on, the nearest one where it has none:
+/// all of them at once where it has them.
+#[inline(always)]
+fn put_row(grid: Grid, x: i64, row: usize, out: &mut [u8])
+    requires near { unsigned_abs x ≤ 8589934592 }
+    requires down { row < grid.height }
+    requires most { length out.old ≤ 80 }
+    ensures count { length out.new ≡ length out.old }
+    ensures each { (i : ℕ) → i < length out.old → slice_index_or out.new i 0 ≡
+        sample_at (plane_of_grid grid.entry) (nearest grid.entry.width (x +ℤ pos i)) row }
+{
+    if lies_inside(x, out.len(), grid.width) {
+        copy_row(grid, x.unsigned_abs() as usize, row, out);
+    } else {
+        put_near(grid, x, row, out);
     }
 }
 

@@ -5,7 +5,7 @@ use Rattle.hv_types.specs.Samples.{sample_at}
 use Rattle.hv_search_model.specs.MotionSearch.{nearest}
 use Rattle.hv_search.specs.Windows.{plane_of_grid}
 use Rattle.hv_interp.proofs.PlaceLemmas.{HasFirst-set}
-use Rattle.hv_search.proofs.window.put_row.Goals as goal
+use Rattle.hv_search.proofs.window.put_near.Goals as goal
 
 pub loop-i-preserved : goal.loop-i-preserved
 loop-i-preserved c =

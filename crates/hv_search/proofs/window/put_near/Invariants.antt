@@ -3,7 +3,7 @@ use Rattle.hv_types.specs.Samples.{sample_at}
 use Rattle.hv_interp.specs.Filters.{HasFirst}
 use Rattle.hv_search_model.specs.MotionSearch.{nearest}
 use Rattle.hv_search.specs.Windows.{plane_of_grid}
-use Rattle.hv_search.proofs.window.put_row.Given as goal
+use Rattle.hv_search.proofs.window.put_near.Given as goal
 
 abbrev pub invariant-loop-i : goal.invariant-loop-i
 invariant-loop-i l =

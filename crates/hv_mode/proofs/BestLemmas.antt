@@ -9,7 +9,7 @@ use Rattle.hv_tree_model.specs.Trees.{Outside, side}
 use Rattle.hv_tree_model.specs.Sites.{Site, x0, y0, is_outside, crosses, must_split}
 use Rattle.hv_mode_model.specs.ModeDecision.{Given, Before, best, chosen, split_of}
 use Rattle.hv_mode.specs.declared.task.Task.{Task}
-use Rattle.hv_mode.specs.Nodes.{given_of, leaf_choice, blank_choice}
+use Rattle.hv_mode.specs.Nodes.{given_of, blank_choice}
 use Rattle.hv_mode.specs.SplitNodes.{split_choice, tried_choice}
 
 -- ---- the tests
@@ -79,16 +79,11 @@ module _ (t : Task) (address : ℕ) (before : Before) (inside : is_outside t.pla
     best_blank zero whole none = rw (inside, none) refl
     best_blank (suc size) whole none = rw (inside, whole, none) refl
 
-    pub best_least : 0 < t.effort →
-        best (given_of t) 0 address before ≡ leaf_choice t 0 address before
+    pub best_tried : 0 < t.effort → (size : ℕ) → must_split t.place size address ≡ false →
+        best (given_of t) size address before ≡ tried_choice t size address before
     unfolding best chosen
-    best_least some =
+    best_tried some zero whole =
         let tries : nat_eq t.effort 0 ≡ false = grind (arith, nat_tests) in rw (inside, tries) refl
-
-    pub best_tried : (size : ℕ) → 0 < size → must_split t.place size address ≡ false →
-        0 < t.effort → best (given_of t) size address before ≡ tried_choice t size address before
-    unfolding best chosen
-    best_tried zero some whole tried = absurd (omega (arith, some))
-    best_tried (suc size) some whole tried =
+    best_tried some (suc size) whole =
         let tries : nat_eq t.effort 0 ≡ false = grind (arith, nat_tests) in
-        rw (inside, whole, tries, split_above size) refl
+        rw (inside, whole, tries) refl

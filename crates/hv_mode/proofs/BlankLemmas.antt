@@ -4,6 +4,7 @@ use Rattle.std.proofs.Common.{◌≡◌, ℕ, zero, suc, ◌+◌, ◌-◌, ◌*�
 use Rattle.std.specs.Prelude.{slice_get, Some, option_map}
 use Rattle.std.proofs.Math.Nat.{pow-suc}
 use Rattle.std.proofs.lemmas.Bool.Decides.{nat_tests}
+use Rattle.hv_types.specs.declared.picture.Picture.{Picture}
 use Rattle.hv_block.specs.declared.block.Block.{Block}
 use Rattle.hv_block.specs.Plans.{CtbPlan, IsWholePlan, unit_of, with_zeros, with_leaf, without_levels}
 use Rattle.hv_plan.specs.declared.prediction.Pred.TheVariants.{Intra as IntraPred}
@@ -11,8 +12,8 @@ use Rattle.hv_plan.specs.declared.prediction.Unit.{Unit}
 use Rattle.hv_tree_model.specs.Trees.{Leaf, Intra, side, depth_of, log2TrafoSize, transform_units, no_levels, no_unit, no_units}
 use Rattle.hv_tree_model.specs.Sites.{Site, x0, y0, squares, is_outside}
 use Rattle.hv_tree_model.specs.MostProbableModes.{dc}
-use Rattle.hv_tree_model.specs.Plans.{part, square_or_none, transform_unit_at, transform_units_at, leaf_at}
-use Rattle.hv_recon.specs.Leaves.{DecodesLeaf, KeepsOtherSamples, IsKnown, leaf_of_plan, lists_with_vectors}
+use Rattle.hv_tree_model.specs.Plans.{Plan, part, square_or_none, transform_unit_at, transform_units_at, leaf_at, tree_at}
+use Rattle.hv_recon.specs.Leaves.{DecodesLeaf, KeepsOtherSamples, IsKnown, lists_with_vectors}
 use Rattle.hv_recon.specs.DecodedNodes.{node_of_plan, is_whole, IsNodeOfBlock}
 use Rattle.hv_recon.proofs.NodeLemmas.{leaf_node, leaf_as_node}
 use Rattle.hv_syntax.specs.Blocks.{ends}
@@ -20,14 +21,16 @@ use Rattle.hv_near.specs.Neighbours.{lists_of_plan}
 use Rattle.hv_near.specs.Squares.{NamesNode}
 use Rattle.hv_syntax.proofs.NamingLemmas.{names_leaf}
 use Rattle.hv_mode.specs.declared.task.Task.{Task}
-use Rattle.hv_mode.specs.Nodes.{SameBefore, Decides, blank_choice}
+use Rattle.hv_mode_model.specs.ModeDecision.{Before, coded_node}
+use Rattle.hv_mode_model.specs.Differences.{tree_with_differences}
+use Rattle.hv_mode.specs.Nodes.{given_of, moving_node, SameBefore, Decides, blank_choice}
+use Rattle.hv_mode.specs.Vectors.{references_of}
 use Rattle.hv_mode.proofs.CopyLemmas.{node_fits, squares_of_size, front_stays, behind_front}
 use Rattle.hv_mode.proofs.NodeFrameLemmas.{decides_by}
 use Rattle.hv_tree_model.proofs.NodeLemmas.{squares_above_0}
 use Rattle.hv_mode.proofs.BestLemmas.{begins_inside}
 use Rattle.std.proofs.lemmas.Option.{slice_get-map}
 use Rattle.hv_inter_model.specs.UnitVectors.{unit_with_vector}
-use Rattle.hv_recon_model.specs.Reconstruction.{decoded_tree}
 
 -- ---- parts of a list that are all the same
 
@@ -189,6 +192,17 @@ whole_own : (size : ℕ) → is_whole size (Some (blank_unit size)) ≡ true
 whole_own zero = refl
 whole_own (suc size) = grind (arith, nat_tests)
 
+-- the plan has it in its first square, and with its vectors too: an intra unit has none
+abbrev moving_plan : ℕ → ℕ → CtbPlan → Plan
+moving_plan size address old = lists_with_vectors (blank_plan size address old)
+
+moving_there : (size address : ℕ) (old : CtbPlan) → IsNodeOfBlock size address →
+    IsWholePlan old →
+    slice_get (moving_plan size address old).units address ≡ Some (blank_unit size)
+moving_there size address old node whole =
+    slice_get-map unit_with_vector (blank_plan size address old).units address ∙
+    ap (option_map unit_with_vector) (unit_there size address old node whole)
+
 blank_names : (place : Site) (size address : ℕ) (old : CtbPlan) → IsNodeOfBlock size address →
     IsWholePlan old → is_outside place address ≡ false →
     NamesNode place (lists_of_plan (blank_plan size address old)) size address
@@ -197,22 +211,53 @@ blank_names place size address old node whole inside =
     inside (unit_there size address old node whole) (ends_own size) refl
     (λ i below there. ap square_or_none (unit_at size address old node whole i below))
 
-blank_whole : (size address : ℕ) (old : CtbPlan) → IsNodeOfBlock size address →
-    IsWholePlan old →
-    is_whole size (slice_get (blank_plan size address old).units address) ≡ true
-blank_whole size address old node whole =
-    ap (is_whole size) (unit_there size address old node whole) ∙ whole_own size
+moving_names : (place : Site) (size address : ℕ) (old : CtbPlan) → IsNodeOfBlock size address →
+    IsWholePlan old → is_outside place address ≡ false →
+    NamesNode place (moving_plan size address old) size address
+moving_names place size address old node whole inside =
+    names_leaf place (moving_plan size address old) size address (blank_unit size)
+    inside (moving_there size address old node whole) (ends_own size) refl
+    (λ i below there.
+    ap square_or_none
+    (slice_get-map unit_with_vector (blank_plan size address old).units (address + i) ∙
+    ap (option_map unit_with_vector) (unit_at size address old node whole i below)))
+
+one_unit : (size address : ℕ) (plan : Plan) →
+    slice_get plan.units address ≡ Some (blank_unit size) →
+    is_whole size (slice_get plan.units address) ≡ true
+one_unit size address plan there = ap (is_whole size) there ∙ whole_own size
+
+tree_of_unit : (place : Site) (size address : ℕ) (plan : Plan) →
+    slice_get plan.units address ≡ Some (blank_unit size) → is_outside place address ≡ false →
+    tree_at place plan size address ≡
+    Leaf (Intra dc) (transform_units_at plan (log2TrafoSize size) address (transform_units size))
+tree_of_unit place size address plan there inside =
+    leaf_node plan size address place inside (one_unit size address plan there) ∙
+    ap (leaf_at plan size address) there
 
 blank_tree : (place : Site) (size address : ℕ) (old : CtbPlan) → IsNodeOfBlock size address →
     IsWholePlan old → is_outside place address ≡ false →
     node_of_plan place (blank_plan size address old) size address ≡
     Leaf (Intra dc) (no_units size)
 blank_tree place size address old node whole inside =
-    leaf_node (lists_of_plan (blank_plan size address old)) size address place inside
-    (blank_whole size address old node whole) ∙
-    ap (leaf_at (lists_of_plan (blank_plan size address old)) size address)
-    (unit_there size address old node whole) ∙
+    tree_of_unit place size address (lists_of_plan (blank_plan size address old))
+    (unit_there size address old node whole) inside ∙
     ap (Leaf (Intra dc)) (blank_units size address old node whole)
+
+moving_tree : (place : Site) (size address : ℕ) (old : CtbPlan) → IsNodeOfBlock size address →
+    IsWholePlan old → is_outside place address ≡ false →
+    tree_at place (moving_plan size address old) size address ≡ Leaf (Intra dc) (no_units size)
+moving_tree place size address old node whole inside =
+    tree_of_unit place size address (moving_plan size address old)
+    (moving_there size address old node whole) inside ∙
+    ap (Leaf (Intra dc)) (blank_units size address old node whole)
+
+-- it is coded as it is
+blank_coded : (t : Task) (size address : ℕ) (before : Before) →
+    coded_node (given_of t) size address before (blank_choice size before) ≡
+    blank_choice size before
+unfolding tree_with_differences
+blank_coded t size address before = refl
 
 blank_kept : (size address : ℕ) (old new : Block) → IsNodeOfBlock size address →
     IsWholePlan old.plan → new.plan ≡ blank_plan size address old.plan →
@@ -246,49 +291,34 @@ blank_there size address old plan node whole is =
 
 pub blank_known : (size address : ℕ) (old plan : CtbPlan) → IsNodeOfBlock size address →
     IsWholePlan old → plan ≡ blank_plan size address old →
-    IsKnown [] (slice_get plan.units address)
-blank_known size address old plan node whole is =
-    subst (IsKnown []) (sym (blank_there size address old plan node whole is)) (omega arith)
-
--- and has no vector
-leaf_stays : (plan : CtbPlan) (size address depth : ℕ) →
-    slice_get plan.units address ≡ Some (record { depth = depth; pred = IntraPred dc }) →
-    leaf_of_plan (lists_with_vectors plan) size address ≡
-    leaf_of_plan (lists_of_plan plan) size address
-leaf_stays plan size address depth there =
-    ap (leaf_at (lists_with_vectors plan) size address)
-    (slice_get-map unit_with_vector plan.units address ∙ ap (option_map unit_with_vector) there) ∙
-    sym (ap (leaf_at (lists_of_plan plan) size address) there)
+    (references : List Picture) → IsKnown references (slice_get plan.units address)
+blank_known size address old plan node whole is references =
+    subst (IsKnown references) (sym (blank_there size address old plan node whole is)) (omega arith)
 
 pub blank_decides : (task : Task) (size address : ℕ) (old new : Block) →
     IsNodeOfBlock size address → IsWholePlan old.plan →
     x0 task.place address + side size ≤ task.place.width →
     y0 task.place address + side size ≤ task.place.height →
     new.plan ≡ blank_plan size address old.plan →
-    DecodesLeaf (lists_with_vectors new.plan) size address task.place task.qp [] task.near.now
-    old.samples new.samples →
+    DecodesLeaf (lists_with_vectors new.plan) size address task.place task.qp
+    (references_of task) task.near.now old.samples new.samples →
     KeepsOtherSamples size address old.samples new.samples →
     Decides task size address (blank_choice size) old new
 blank_decides task size address old new node whole right bottom is decodes kept =
     let inside = begins_inside task.place size address right bottom in
-    let stays = leaf_stays new.plan size address (depth_of size)
-    (blank_there size address old.plan new.plan node whole is) in
-    let decodes_so : DecodesLeaf (lists_of_plan new.plan) size address task.place task.qp []
-    task.near.now old.samples new.samples = λ d seen.
-    let r = decodes d seen in (
-      r.0,
-      ap (λ tree. decoded_tree task.qp size (x0 task.place address) (y0 task.place address) tree d)
-          (sym stays) ∙
-          r.1,
-      r.2,
-    ) in
     decides_by task size address (blank_choice size) old new
     (blank_kept size address old new node whole is kept)
     (subst (λ p. NamesNode task.place (lists_of_plan p) size address) (sym is)
     (blank_names task.place size address old.plan node whole inside))
+    (subst (λ p. NamesNode task.place (lists_with_vectors p) size address) (sym is)
+    (moving_names task.place size address old.plan node whole inside))
+    (λ before stands. ap (λ p. moving_node task.place p size address) is ∙
+    moving_tree task.place size address old.plan node whole inside)
     (λ before stands. ap (λ p. node_of_plan task.place p size address) is ∙
-    blank_tree task.place size address old.plan node whole inside)
-    (leaf_as_node (lists_of_plan new.plan) size address task.place task.qp [] task.near.now
-    old.samples new.samples inside
-    (ap (λ p. is_whole size (slice_get p.units address)) is ∙
-    blank_whole size address old.plan node whole) decodes_so)
+    blank_tree task.place size address old.plan node whole inside ∙
+    sym (blank_coded task size address before))
+    (leaf_as_node (lists_with_vectors new.plan) size address task.place task.qp
+    (references_of task) task.near.now old.samples new.samples inside
+    (ap (λ p. is_whole size (slice_get (lists_with_vectors p).units address)) is ∙
+    one_unit size address (moving_plan size address old.plan)
+    (moving_there size address old.plan node whole)) decodes)

@@ -28,6 +28,7 @@ use Rattle.hv_recon.proofs.UnitLemmas.{is_node, unit_ends, UnitInPicture, unit_b
 use Rattle.hv_recon.proofs.GreatLeafLemmas.{quarter_places, quarter_behind}
 use Rattle.hv_mode_model.specs.ModeDecision.{Given, Before, or_else, differences, chosen_levels, chosen_unit, chosen_quarters, leaf}
 use Rattle.hv_mode.specs.declared.task.Task.{Task}
+use Rattle.hv_mode.specs.Vectors.{references_of}
 use Rattle.hv_mode.specs.Nodes.{given_of}
 use Rattle.hv_recon.specs.Units.{IsUnitPut}
 
@@ -87,7 +88,7 @@ some_side (suc (suc (suc size))) few = absurd (omega (arith, few))
 pub unit_chosen : (t : Task) (plan : CtbPlan) (size address mode : ℕ) (old new : Samples)
     (d : Decoded) → size ≤ 2 → IsNode size address →
     IsUnitCoded t.input.now plan t.place t.near.now size address mode t.qp old new →
-    AreSeen t.place [] t.near.now old address d →
+    AreSeen t.place (references_of t) t.near.now old address d →
     transform_unit_at (lists_of_plan plan) (size + 3) address ≡
     chosen_unit (given_of t) (Intra mode)
     (square_at (x0 t.place address) (y0 t.place address) (size + 3)) d
@@ -105,19 +106,22 @@ unit_chosen t plan size address mode old new d few node coded seen =
     let luma =
     coded.luma ∙
     chosen_block (luma_spot t.place) (luma_around t.near.now) old.luma address d.luma
-    t.input.now.luma (luma_planes d.references) (8 * column_of address) (8 * row_of address) (size + 3) mode true t.qp fits
+    t.input.now.luma (luma_planes d.references) (8 * column_of address) (8 * row_of address)
+    (size + 3) mode true t.qp fits
     seen.luma in
     let cb =
     part_of_chroma plan.cb size address ∙ coded.cb ∙
     chosen_block (chroma_spot t.place) (cb_around t.near.now) old.cb address d.cb t.input.now.cb
-    (cb_planes d.references) (4 * column_of address) (4 * row_of address) (size + 2) mode false (chroma_qp t.qp) chroma_fits
+    (cb_planes d.references) (4 * column_of address) (4 * row_of address) (size + 2) mode
+    false (chroma_qp t.qp) chroma_fits
     seen.cb ∙
     chroma_levels t.place size address mode (chroma_qp t.qp) t.input.now.cb
     (cb_planes d.references) d.cb in
     let cr =
     part_of_chroma plan.cr size address ∙ coded.cr ∙
     chosen_block (chroma_spot t.place) (cr_around t.near.now) old.cr address d.cr t.input.now.cr
-    (cr_planes d.references) (4 * column_of address) (4 * row_of address) (size + 2) mode false (chroma_qp t.qp) chroma_fits
+    (cr_planes d.references) (4 * column_of address) (4 * row_of address) (size + 2) mode
+    false (chroma_qp t.qp) chroma_fits
     seen.cr ∙
     chroma_levels t.place size address mode (chroma_qp t.qp) t.input.now.cr
     (cr_planes d.references) d.cr in
@@ -135,7 +139,8 @@ next_quarter : (g : Given) (p : Prediction) (s : Square) (i count : ℕ) (d e : 
     units ≡ chosen_quarters g p s (suc i) count e →
     unit ∷ units ≡ chosen_quarters g p s i (suc count) d
 next_quarter g p s i count d e unit units same is rest =
-    let reached : or_else d (decoded_unit g.qp p (quarter s i) (chosen_unit g p (quarter s i) d) d) ≡
+    let reached :
+    or_else d (decoded_unit g.qp p (quarter s i) (chosen_unit g p (quarter s i) d) d) ≡
     e =
     ap (λ u. or_else d (decoded_unit g.qp p (quarter s i) u d)) (sym same) ∙ ap (or_else d) is in
     ap₂ (λ u l. u ∷ l) same
@@ -145,7 +150,7 @@ quarter_chosen : (t : Task) (plan : CtbPlan) (address mode : ℕ) (old new : Sam
     (d : Decoded) → address < 64 → address % 16 ≡ 0 → x ≡ x0 t.place address →
     y ≡ y0 t.place address →
     IsUnitCoded t.input.now plan t.place t.near.now 2 address mode t.qp old new →
-    AreSeen t.place [] t.near.now old address d →
+    AreSeen t.place (references_of t) t.near.now old address d →
     unit_at plan address ≡ chosen_unit (given_of t) (Intra mode) (square_at x y 5) d
 quarter_chosen t plan address mode old new x y d below even across down coded seen =
     unit_chosen t plan 2 address mode old new d (lit≤ tt)
@@ -157,21 +162,21 @@ quarter_decodes : (t : Task) (plan : CtbPlan) (mode address : ℕ) (old new : Sa
     (d : Decoded) → address < 64 → address % 16 ≡ 0 → UnitInPicture t.place 2 address →
     x ≡ x0 t.place address → y ≡ y0 t.place address →
     IsUnitPut plan t.place t.near.now 2 address mode t.qp old new →
-    AreSeen t.place [] t.near.now old address d →
+    AreSeen t.place (references_of t) t.near.now old address d →
     (e : Decoded) ×
     (decoded_unit t.qp (Intra mode) (square_at x y 5) (unit_at plan address) d ≡ Some e) ×
-    AreSeen t.place [] t.near.now new (address + 16) e
+    AreSeen t.place (references_of t) t.near.now new (address + 16) e
 quarter_decodes t plan mode =
-    quarter_behind (Intra mode) (lists_of_plan plan) t.place [] t.near.now t.qp
+    quarter_behind (Intra mode) (lists_of_plan plan) t.place (references_of t) t.near.now t.qp
     (λ address. IsUnitPut plan t.place t.near.now 2 address mode t.qp)
     (λ address old new below even inside put d seen.
-    unit_behind plan t.place [] t.near.now 2 address mode t.qp old new d (lit≤ tt)
+    unit_behind plan t.place (references_of t) t.near.now 2 address mode t.qp old new d (lit≤ tt)
     (is_node 2 address (lit≤ tt) below even) inside put seen)
 
 pub quarters_chosen : (t : Task) (plan : CtbPlan) (mode : ℕ) (old new : Samples) (d : Decoded) →
     UnitInPicture t.place 3 0 →
     AreQuartersCoded t.input.now plan t.place t.near.now mode t.qp old new →
-    AreSeen t.place [] t.near.now old 0 d →
+    AreSeen t.place (references_of t) t.near.now old 0 d →
     unit_at plan 0 ∷ unit_at plan 16 ∷ unit_at plan 32 ∷ unit_at plan 48 ∷ [] ≡
     chosen_quarters (given_of t) (Intra mode) (square_at (x0 t.place 0) (y0 t.place 0) 6) 0 4 d
 quarters_chosen t plan mode old new d inside coded seen =
@@ -219,7 +224,7 @@ quarters_chosen t plan mode old new d inside coded seen =
 small_chosen : (t : Task) (plan : CtbPlan) (size address mode : ℕ) (old new : Samples)
     (before : Before) → size ≤ 2 → IsNode size address →
     IsUnitCoded t.input.now plan t.place t.near.now size address mode t.qp old new →
-    AreSeen t.place [] t.near.now old address before.decoded →
+    AreSeen t.place (references_of t) t.near.now old address before.decoded →
     leaf_of (lists_of_plan plan) size address (IntraPred mode) ≡
     leaf (given_of t) size address before (Intra mode)
 unfolding leaf
@@ -238,7 +243,7 @@ small_chosen t plan (suc (suc (suc size))) address mode old new before few node 
 great_chosen : (t : Task) (plan : CtbPlan) (mode : ℕ) (old new : Samples) (before : Before) →
     UnitInPicture t.place 3 0 →
     AreQuartersCoded t.input.now plan t.place t.near.now mode t.qp old new →
-    AreSeen t.place [] t.near.now old 0 before.decoded →
+    AreSeen t.place (references_of t) t.near.now old 0 before.decoded →
     leaf_of (lists_of_plan plan) 3 0 (IntraPred mode) ≡
     leaf (given_of t) 3 0 before (Intra mode)
 unfolding leaf
@@ -250,7 +255,7 @@ pub leaf_chosen : (t : Task) (plan : CtbPlan) (size address mode : ℕ) (old new
     (before : Before) → size ≤ 3 → address < 64 → address % squares size ≡ 0 →
     UnitInPicture t.place size address →
     IsLeafCoded t.input.now plan t.place t.near.now size address mode t.qp old new →
-    AreSeen t.place [] t.near.now old address before.decoded →
+    AreSeen t.place (references_of t) t.near.now old address before.decoded →
     leaf_of (lists_of_plan plan) size address (IntraPred mode) ≡
     leaf (given_of t) size address before (Intra mode)
 leaf_chosen t plan size address mode old new before few below even inside coded seen =
@@ -268,6 +273,7 @@ leaf_chosen t plan size address mode old new before few below even inside coded 
           (subst (λ n. UnitInPicture t.place n 0) three
           (subst (λ a. UnitInPicture t.place size a) first inside))
           (coded.four three)
-          (subst (λ a. AreSeen t.place [] t.near.now old a before.decoded) first seen) ∙
+          (subst (λ a. AreSeen t.place (references_of t) t.near.now old a before.decoded) first
+          seen) ∙
           sym (λ i. leaf (given_of t) (three i) (first i) before (Intra mode))
     ]

@@ -1,16 +1,18 @@
 -- Frames of a block in decoding order: what is known before an address holds in each block that has
 -- the same before it, and a copied node restores what stood there (6.5.2).
 use Rattle.std.proofs.Common.{◌≡◌, ℕ, ◌+◌, ◌-◌, ◌*◌, ◌<◌, ◌≤◌, Bool, true, false, List, ◌++◌, take, take-take, refl, sym, ap, ap₂, ◌∙◌, subst, arith, mul-add}
-use Rattle.std.specs.Prelude.{nat_lt, ◌&&◌, None}
+use Rattle.std.specs.Prelude.{nat_lt, ◌&&◌, map, None}
 use Rattle.std.proofs.Math.Seq.{take-add}
 use Rattle.std.proofs.lemmas.Bool.{and_parts, ltb-true, lt-ltb}
+use Rattle.std.proofs.lemmas.List.{take-map}
 use Rattle.hv_block.specs.declared.block.Block.{Block}
 use Rattle.hv_tree_model.specs.Trees.{Tree}
 use Rattle.hv_tree_model.specs.Sites.{squares}
-use Rattle.hv_tree_model.specs.Plans.{part, square_or_none}
+use Rattle.hv_tree_model.specs.Plans.{Plan, part, square_or_none}
 use Rattle.hv_recon_model.specs.Reconstruction.{Component}
 use Rattle.hv_recon_model.specs.SeenSamples.{Spot, SamplesAround, IsSeen, by_rows, comes_before, is_in_picture, sample_at_left, sample_above, sample_around, look_around}
-use Rattle.hv_near.specs.Neighbours.{lists_of_plan}
+use Rattle.hv_inter_model.specs.UnitVectors.{unit_with_vector}
+use Rattle.hv_recon.specs.Leaves.{lists_with_vectors}
 use Rattle.hv_near.specs.Squares.{own_square}
 use Rattle.hv_mode_model.specs.ModeDecision.{Before}
 use Rattle.hv_mode.specs.declared.task.Task.{Task}
@@ -63,6 +65,23 @@ same_refl address s = record {
   luma = same_samples 64 address s.samples.luma;
   cb = same_samples 32 address s.samples.cb;
   cr = same_samples 32 address s.samples.cr;
+}
+
+samples_sym : (side address : ℕ) (s t : List ℕ) → SameSamples side address s t →
+    SameSamples side address t s
+samples_sym side address s t same = record {
+  sample = λ x y across down before. sym (same.sample x y across down before);
+}
+
+pub same_sym : (address : ℕ) (s t : Block) → SameBefore address s t → SameBefore address t s
+same_sym address s t same = record {
+  units = sym same.units;
+  luma_levels = sym same.luma_levels;
+  cb_levels = sym same.cb_levels;
+  cr_levels = sym same.cr_levels;
+  luma = samples_sym 64 address _ _ same.luma;
+  cb = samples_sym 32 address _ _ same.cb;
+  cr = samples_sym 32 address _ _ same.cr;
 }
 
 pub same_trans : (address : ℕ) (s t u : Block) → SameBefore address s t →
@@ -168,11 +187,25 @@ seen_same s around old new address samples same seen = record {
       seen.sample x y left right top low ∙ look_same s around old new address x y same;
 }
 
-pub own_square_same : (address : ℕ) (s t : Block) (a : ℕ) → a < address →
+pub own_square_same : (address : ℕ) (p q : Plan) (a : ℕ) → a < address →
+    take address q.units ≡ take address p.units → own_square p a ≡ own_square q a
+own_square_same address p q a below same =
+    ap square_or_none (get_before address p.units q.units a below (sym same))
+
+-- with their vectors the units are the same too
+pub moving_units_same : (address : ℕ) (s t : Block) → SameBefore address s t →
+    take address (map unit_with_vector t.plan.units) ≡
+    take address (map unit_with_vector s.plan.units)
+moving_units_same address s t same =
+    take-map unit_with_vector address t.plan.units ∙ ap (map unit_with_vector) same.units ∙
+    sym (take-map unit_with_vector address s.plan.units)
+
+pub moving_square_same : (address : ℕ) (s t : Block) (a : ℕ) → a < address →
     SameBefore address s t →
-    own_square (lists_of_plan s.plan) a ≡ own_square (lists_of_plan t.plan) a
-own_square_same address s t a below same =
-    ap square_or_none (get_before address s.plan.units t.plan.units a below (sym same.units))
+    own_square (lists_with_vectors s.plan) a ≡ own_square (lists_with_vectors t.plan) a
+moving_square_same address s t a below same =
+    own_square_same address (lists_with_vectors s.plan) (lists_with_vectors t.plan) a below
+    (moving_units_same address s t same)
 
 pub stands_since : (task : Task) (address : ℕ) (before : Before) (s t : Block) →
     SameBefore address s t → Stands task s address before → Stands task t address before
@@ -186,7 +219,7 @@ stands_since task address before s t same stands = record {
   earlier = record {
     count = stands.earlier.count;
     square = λ a below inside. stands.earlier.square a below inside ∙
-        own_square_same address s t a below same;
+        moving_square_same address s t a below same;
   };
 }
 
@@ -196,8 +229,11 @@ pub decides_since : (task : Task) (size address : ℕ) (choice : Before → Tree
 decides_since task size address choice old mid new same decides = record {
   kept = same_trans address old mid new same decides.kept;
   names = decides.names;
+  moving_names = decides.moving_names;
   tree = λ before stands.
       decides.tree before (stands_since task address before old mid same stands);
+  coded = λ before stands.
+      decides.coded before (stands_since task address before old mid same stands);
   stands = λ before stands.
       decides.stands before (stands_since task address before old mid same stands);
 }

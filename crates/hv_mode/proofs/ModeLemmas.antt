@@ -34,8 +34,10 @@ AreModes (mode ∷ modes) = (mode ≤ 34) × AreModes modes
 tabulated : (n : ℕ) (f : ℕ → ℕ) → ((i : ℕ) → i < n → f i ≤ 34) → AreModes (tabulate n f)
 unfolding tabulate
 tabulated zero f few = tt
-tabulated (suc n) f few =
-    (few 0 (omega arith), tabulated n (λ i. f (suc i)) (λ i below. few (suc i) (omega (arith, below))))
+tabulated (suc n) f few = (
+  few 0 (omega arith),
+  tabulated n (λ i. f (suc i)) (λ i below. few (suc i) (omega (arith, below))),
+)
 
 one_of : (test : Bool) (a b : ℕ) → a ≤ 34 → b ≤ 34 → cond test a b ≤ 34
 one_of true a b few small = few

@@ -45,7 +45,8 @@ counted_here count s site plan size n address a same there counted =
 -- ---- the cost
 
 pub cost_is : (g : Given) (size address : ℕ) (before : Before) (tree planned : Tree)
-    (result errors bins : ℕ) → coded_node g size address before tree ≡ planned → result ≡ cost g.qp errors bins →
+    (result errors bins : ℕ) → coded_node g size address before tree ≡ planned →
+    result ≡ cost g.qp errors bins →
     errors ≡
     squared_errors g.input (decoded_behind g size address tree before.decoded)
     (node_square g size address) →

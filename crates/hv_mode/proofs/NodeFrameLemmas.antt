@@ -1,6 +1,6 @@
 -- Nodes of a block in decoding order (6.5.2): a later write keeps a node's tree and the names of
 -- its units, and a node that decodes as it is chosen is decided.
-use Rattle.std.proofs.Common.{◌≡◌, ℕ, zero, suc, ◌+◌, ◌-◌, ◌*◌, ◌^◌, ◌<◌, ◌≤◌, Bool, true, false, cond, List, ◌∷◌, ◌++◌, take, drop, refl, sym, ap, ap₂, ◌∙◌, subst, arith, []}
+use Rattle.std.proofs.Common.{◌≡◌, ℕ, zero, suc, ◌+◌, ◌-◌, ◌*◌, ◌^◌, ◌<◌, ◌≤◌, Bool, true, false, cond, List, ◌∷◌, ◌++◌, take, drop, refl, sym, ap, ap₂, ◌∙◌, subst, arith}
 use Rattle.std.specs.Prelude.{nat_le, slice_get, slice_index_or, Option, Some, None}
 use Rattle.std.proofs.lemmas.List.{drop-take}
 use Rattle.std.proofs.lemmas.Bool.{true≢false}
@@ -12,7 +12,7 @@ use Rattle.hv_tree_model.specs.Sites.{Site, squares, is_outside}
 use Rattle.hv_tree_model.specs.EarlierUnits.{Square, Unavailable, squares_of}
 use Rattle.hv_tree_model.specs.Plans.{Plan, part, prediction_of, transform_unit_at, transform_units_at, leaf_at, is_leaf, tree_at}
 use Rattle.hv_recon_model.specs.Reconstruction.{Decoded}
-use Rattle.hv_recon.specs.Leaves.{AreSeen}
+use Rattle.hv_recon.specs.Leaves.{AreSeen, lists_with_vectors}
 use Rattle.hv_recon.specs.DecodedNodes.{node_of_plan, IsNodeOfBlock, DecodesNode}
 use Rattle.hv_recon.proofs.NodeLemmas.{split_node}
 use Rattle.hv_near.specs.Neighbours.{lists_of_plan}
@@ -20,10 +20,11 @@ use Rattle.hv_syntax.specs.Blocks.{ends}
 use Rattle.hv_near.specs.Squares.{Shows, NamesNode}
 use Rattle.hv_syntax.proofs.NodeLemmas.{shows_more}
 use Rattle.hv_syntax.proofs.NamingLemmas.{depth_of_names, names_by_parts}
-use Rattle.hv_mode_model.specs.ModeDecision.{Before, or_else, decoded_behind}
+use Rattle.hv_mode_model.specs.ModeDecision.{Before, or_else, decoded_behind, coded_node}
 use Rattle.hv_mode.specs.declared.task.Task.{Task}
-use Rattle.hv_mode.specs.Nodes.{given_of, Stands, SameBefore, Decides}
-use Rattle.hv_mode.proofs.FrameLemmas.{take_less, same_trans, same_less, own_square_same, stands_since}
+use Rattle.hv_mode.specs.Nodes.{given_of, moving_node, Stands, SameBefore, Decides}
+use Rattle.hv_mode.specs.Vectors.{references_of}
+use Rattle.hv_mode.proofs.FrameLemmas.{take_less, same_trans, same_less, own_square_same, moving_units_same, moving_square_same, stands_since}
 use Rattle.hv_lemmas.proofs.ListLemmas.{get_before}
 use Rattle.hv_tree_model.proofs.NodeLemmas.{squares_above_0}
 
@@ -139,6 +140,27 @@ first_of address s t same = record {
   cr = same.cr_levels;
 }
 
+-- with the vectors of the units
+first_moving : (address : ℕ) (s t : Block) → SameBefore address s t →
+    SameFirst address (lists_with_vectors t.plan) (lists_with_vectors s.plan)
+first_moving address s t same = record {
+  units = moving_units_same address s t same;
+  luma = same.luma_levels;
+  cb = same.cb_levels;
+  cr = same.cr_levels;
+}
+
+names_same : (site : Site) (size address : ℕ) (p q : Plan) → size ≤ 3 →
+    SameFirst (address + squares size) q p → NamesNode site p size address →
+    NamesNode site q size address
+names_same site size address p q few same names = record {
+  square = λ i below inside.
+      ap (λ tree. slice_index_or (squares_of size tree) i Unavailable)
+      (tree_same site (address + squares size) size address q p few (omega arith) same) ∙
+      names.square i below inside ∙
+      own_square_same (address + squares size) p q (address + i) (omega (arith, below)) same.units;
+}
+
 pub tree_kept : (place : Site) (size address : ℕ) (s t : Block) → IsNodeOfBlock size address →
     SameBefore (address + squares size) s t →
     node_of_plan place t.plan size address ≡ node_of_plan place s.plan size address
@@ -146,17 +168,28 @@ tree_kept place size address s t node same =
     tree_same place (address + squares size) size address _ _ node.size_at_most (omega arith)
     (first_of (address + squares size) s t same)
 
+pub moving_tree_kept : (place : Site) (size address : ℕ) (s t : Block) →
+    IsNodeOfBlock size address → SameBefore (address + squares size) s t →
+    moving_node place t.plan size address ≡ moving_node place s.plan size address
+moving_tree_kept place size address s t node same =
+    tree_same place (address + squares size) size address _ _ node.size_at_most (omega arith)
+    (first_moving (address + squares size) s t same)
+
 pub names_kept : (place : Site) (size address : ℕ) (s t : Block) → IsNodeOfBlock size address →
     SameBefore (address + squares size) s t →
     NamesNode place (lists_of_plan s.plan) size address →
     NamesNode place (lists_of_plan t.plan) size address
-names_kept place size address s t node same names = record {
-  square = λ i below inside.
-      ap (λ tree. slice_index_or (squares_of size tree) i Unavailable)
-      (tree_kept place size address s t node same) ∙
-      names.square i below inside ∙
-      own_square_same (address + squares size) s t (address + i) (omega (arith, below)) same;
-}
+names_kept place size address s t node same =
+    names_same place size address (lists_of_plan s.plan) (lists_of_plan t.plan)
+    node.size_at_most (first_of (address + squares size) s t same)
+
+pub moving_names_kept : (place : Site) (size address : ℕ) (s t : Block) →
+    IsNodeOfBlock size address → SameBefore (address + squares size) s t →
+    NamesNode place (lists_with_vectors s.plan) size address →
+    NamesNode place (lists_with_vectors t.plan) size address
+moving_names_kept place size address s t node same =
+    names_same place size address (lists_with_vectors s.plan) (lists_with_vectors t.plan)
+    node.size_at_most (first_moving (address + squares size) s t same)
 
 pub decides_kept : (task : Task) (size address : ℕ) (choice : Before → Tree)
     (old mid new : Block) → IsNodeOfBlock size address →
@@ -166,8 +199,12 @@ decides_kept task size address choice old mid new node decides same = record {
   kept = same_trans address old mid new decides.kept
       (same_less address (address + squares size) mid new (omega arith) same);
   names = names_kept task.place size address mid new node same decides.names;
+  moving_names =
+      moving_names_kept task.place size address mid new node same decides.moving_names;
   tree = λ before stands.
-      tree_kept task.place size address mid new node same ∙ decides.tree before stands;
+      moving_tree_kept task.place size address mid new node same ∙ decides.tree before stands;
+  coded = λ before stands.
+      tree_kept task.place size address mid new node same ∙ decides.coded before stands;
   stands = λ before stands.
       stands_since task (address + squares size) _ mid new same (decides.stands before stands);
 }
@@ -175,30 +212,37 @@ decides_kept task size address choice old mid new node decides same = record {
 -- ---- what is seen behind a node
 
 pub shows_behind : (place : Site) (size address : ℕ) (earlier : List Square) (s t : Block) →
-    Shows place (lists_of_plan s.plan) address earlier → SameBefore address s t →
-    NamesNode place (lists_of_plan t.plan) size address →
-    Shows place (lists_of_plan t.plan) (address + squares size)
-    (earlier ++ squares_of size (node_of_plan place t.plan size address))
+    Shows place (lists_with_vectors s.plan) address earlier → SameBefore address s t →
+    NamesNode place (lists_with_vectors t.plan) size address →
+    Shows place (lists_with_vectors t.plan) (address + squares size)
+    (earlier ++ squares_of size (moving_node place t.plan size address))
 shows_behind place size address earlier s t shows same names =
-    shows_more place (lists_of_plan t.plan) size address earlier
+    shows_more place (lists_with_vectors t.plan) size address earlier
     (record {
       count = shows.count;
       square = λ a below inside.
-          shows.square a below inside ∙ own_square_same address s t a below same;
+          shows.square a below inside ∙ moving_square_same address s t a below same;
     })
     names
 
--- a node that has the tree chosen, and decodes, is decided
+-- a node that has the tree chosen, and what is coded of it, and decodes, is decided
 pub decides_by : (task : Task) (size address : ℕ) (choice : Before → Tree) (old new : Block) →
     SameBefore address old new → NamesNode task.place (lists_of_plan new.plan) size address →
+    NamesNode task.place (lists_with_vectors new.plan) size address →
     ((before : Before) → Stands task old address before →
-    node_of_plan task.place new.plan size address ≡ choice before) →
-    DecodesNode (lists_of_plan new.plan) size address task.place task.qp [] task.near.now old.samples new.samples →
+    moving_node task.place new.plan size address ≡ choice before) →
+    ((before : Before) → Stands task old address before →
+    node_of_plan task.place new.plan size address ≡
+    coded_node (given_of task) size address before (choice before)) →
+    DecodesNode (lists_with_vectors new.plan) size address task.place task.qp
+    (references_of task) task.near.now old.samples new.samples →
     Decides task size address choice old new
-decides_by task size address choice old new same names tree decodes = record {
+decides_by task size address choice old new same names moving_names tree coded decodes = record {
   kept = same;
   names = names;
+  moving_names = moving_names;
   tree = tree;
+  coded = coded;
   stands = λ before stands.
       let d : Decoded = before.decoded in
       let same_tree = tree before stands in
@@ -208,10 +252,13 @@ decides_by task size address choice old new same names tree decodes = record {
       ap (or_else d) r.1 in
       let next : ℕ = address + squares size in
       record {
-        decoded = subst (AreSeen task.place [] task.near.now new.samples next) (sym is) r.2;
-        earlier = subst (λ chosen. Shows task.place (lists_of_plan new.plan) next
+        decoded =
+            subst (AreSeen task.place (references_of task) task.near.now new.samples next)
+            (sym is) r.2;
+        earlier = subst (λ chosen. Shows task.place (lists_with_vectors new.plan) next
             (before.earlier ++ squares_of size chosen)) same_tree
-            (shows_behind task.place size address before.earlier old new stands.earlier same names);
+            (shows_behind task.place size address before.earlier old new stands.earlier same
+            moving_names);
       };
 }
 

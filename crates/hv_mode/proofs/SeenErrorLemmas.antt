@@ -1,6 +1,6 @@
 -- Squared differences at a node of a coding tree block: those by the block's own rows are those of
 -- whatever is decoded of the picture and is seen so behind the node.
-use Rattle.std.proofs.Common.{◌≡◌, ℕ, ◌+◌, ◌-◌, ◌*◌, ◌/◌, ◌%◌, ◌^◌, ◌<◌, ◌≤◌, Bool, true, false, List, refl, sym, ap, ap₂, subst, ◌∙◌, arith, inl, inr, []}
+use Rattle.std.proofs.Common.{◌≡◌, ℕ, ◌+◌, ◌-◌, ◌*◌, ◌/◌, ◌%◌, ◌^◌, ◌<◌, ◌≤◌, Bool, true, false, List, refl, sym, ap, ap₂, subst, ◌∙◌, arith, inl, inr}
 use Rattle.std.specs.Prelude.{nat_le, nat_lt, ◌&&◌, ◌||◌}
 use Rattle.std.proofs.lemmas.Bool.{cases_lt, lt-ltb}
 use Rattle.std.proofs.lemmas.Bool.Decides.{nat_tests}
@@ -222,8 +222,9 @@ errors_at n input own left top column row log2 =
     (sample_of (by_rows n own (column + x) (row + y)))))
 
 module _ (place : Site) (near : Neighbours) (own : Samples) (input : Picture) (d : Decoded)
-    (size address : ℕ) (node : IsNode size address) (inside : NodeInPicture place size address)
-    (seen : AreSeen place [] near own (address + squares size) d) (luma chroma : Square)
+    (references : List Picture) (size address : ℕ) (node : IsNode size address)
+    (inside : NodeInPicture place size address)
+    (seen : AreSeen place references near own (address + squares size) d) (luma chroma : Square)
     (are : IsLumaOfNode place size address luma) (half_of : IsChromaOf luma chroma) where
   next : ℕ
   next = address + squares size

@@ -1,6 +1,6 @@
 -- A node that is decided as the definition has it is decoded so (8.4), and so is one that is split
 -- into four nodes that are decided one behind the other.
-use Rattle.std.proofs.Common.{◌≡◌, ℕ, suc, ◌+◌, ◌-◌, ◌*◌, ◌<◌, ◌≤◌, false, ◌++◌, refl, sym, ap, subst, ◌∙◌, arith, []}
+use Rattle.std.proofs.Common.{◌≡◌, ℕ, suc, ◌+◌, ◌-◌, ◌*◌, ◌<◌, ◌≤◌, false, ◌++◌, refl, sym, ap, subst, ◌∙◌, arith}
 use Rattle.std.specs.Prelude.{List, slice_get}
 use Rattle.std.proofs.Math.Dec.{lit<}
 use Rattle.hv_block.specs.declared.block.Block.{Block}
@@ -8,19 +8,21 @@ use Rattle.hv_block.specs.Plans.{CtbPlan}
 use Rattle.hv_tree_model.specs.Trees.{Tree, greatest_size}
 use Rattle.hv_tree_model.specs.Sites.{x0, y0, squares, is_outside}
 use Rattle.hv_tree_model.specs.EarlierUnits.{Square, squares_of}
-use Rattle.hv_tree_model.specs.Plans.{is_leaf}
+use Rattle.hv_tree_model.specs.Plans.{Plan, is_leaf}
 use Rattle.hv_tree_model.proofs.NodeLemmas.{child_of}
 use Rattle.hv_near.specs.Neighbours.{lists_of_plan}
 use Rattle.hv_near.specs.Squares.{Shows, NamesNode}
 use Rattle.hv_recon_model.specs.Reconstruction.{Decoded, decoded_tree}
-use Rattle.hv_recon.specs.Leaves.{AreSeen}
+use Rattle.hv_recon.specs.Leaves.{AreSeen, lists_with_vectors}
 use Rattle.hv_recon.specs.DecodedNodes.{node_of_plan, DecodesNode, IsNodeOfBlock}
 use Rattle.hv_recon.proofs.NodeLemmas.{node_of_block, split_node, split_by_children}
-use Rattle.hv_mode_model.specs.ModeDecision.{Before, or_else, behind, decoded_behind, split_of, best}
+use Rattle.hv_mode_model.specs.ModeDecision.{Before, or_else, behind, decoded_behind, coded_node, split_of, best}
+use Rattle.hv_mode_model.specs.Differences.{tree_with_differences}
 use Rattle.hv_mode_model.proofs.ChosenDecodedLemmas.{decoded_node}
 use Rattle.hv_mode.specs.declared.task.Task.{Task}
-use Rattle.hv_mode.specs.Nodes.{given_of, Stands, SameBefore, Decides}
+use Rattle.hv_mode.specs.Nodes.{given_of, moving_node, Stands, SameBefore, Decides}
 use Rattle.hv_mode.specs.SplitNodes.{split_choice}
+use Rattle.hv_mode.specs.Vectors.{references_of}
 use Rattle.hv_mode.proofs.FrameLemmas.{same_trans, same_less}
 use Rattle.hv_mode.proofs.NodeFrameLemmas.{decides_kept, shows_behind, not_leaf, names_four}
 
@@ -29,16 +31,17 @@ use Rattle.hv_mode.proofs.NodeFrameLemmas.{decides_kept, shows_behind, not_leaf,
 abbrev Chosen : Task → ℕ → ℕ → Before → Tree
 Chosen t size address = best (given_of t) size address
 
--- the node of a plan that has the chosen tree, by the samples behind it
+-- the node of a plan that has the chosen tree with vectors, by the samples behind it
 pub decodes_by : (t : Task) (size address : ℕ) (plan : CtbPlan) (old new : Block)
     (earlier : List Square) → size ≤ greatest_size →
-    Shows t.place (lists_of_plan old.plan) address earlier →
+    Shows t.place (lists_with_vectors old.plan) address earlier →
     ((before : Before) → Stands t old address before →
-    node_of_plan t.place plan size address ≡ Chosen t size address before) →
+    moving_node t.place plan size address ≡ Chosen t size address before) →
     ((before : Before) → Stands t old address before →
     Stands t new (address + squares size)
     (behind (given_of t) size address (Chosen t size address before) before)) →
-    DecodesNode (lists_of_plan plan) size address t.place t.qp [] t.near.now old.samples new.samples
+    DecodesNode (lists_with_vectors plan) size address t.place t.qp (references_of t) t.near.now
+    old.samples new.samples
 decodes_by t size address plan old new earlier few shows tree stands d seen =
     let before : Before = record { decoded = d; earlier = earlier } in
     let here : Stands t old address before = record { decoded = seen; earlier = shows } in (
@@ -50,19 +53,21 @@ decodes_by t size address plan old new earlier few shows tree stands d seen =
     )
 
 pub decides_decodes : (t : Task) (size address : ℕ) (old new : Block) (earlier : List Square) →
-    size ≤ greatest_size → Shows t.place (lists_of_plan old.plan) address earlier →
+    size ≤ greatest_size → Shows t.place (lists_with_vectors old.plan) address earlier →
     Decides t size address (Chosen t size address) old new →
-    DecodesNode (lists_of_plan new.plan) size address t.place t.qp [] t.near.now old.samples new.samples
+    DecodesNode (lists_with_vectors new.plan) size address t.place t.qp (references_of t)
+    t.near.now old.samples new.samples
 decides_decodes t size address old new earlier few shows decides =
     decodes_by t size address new.plan old new earlier few shows decides.tree decides.stands
 
 -- so what is decoded behind the tree is seen
 pub seen_behind : (t : Task) (size address : ℕ) (plan : CtbPlan) (old new : Block) (tree : Tree)
     (d : Decoded) →
-    DecodesNode (lists_of_plan plan) size address t.place t.qp [] t.near.now old.samples new.samples →
-    AreSeen t.place [] t.near.now old.samples address d →
-    node_of_plan t.place plan size address ≡ tree →
-    AreSeen t.place [] t.near.now new.samples (address + squares size)
+    DecodesNode (lists_with_vectors plan) size address t.place t.qp (references_of t) t.near.now
+    old.samples new.samples →
+    AreSeen t.place (references_of t) t.near.now old.samples address d →
+    moving_node t.place plan size address ≡ tree →
+    AreSeen t.place (references_of t) t.near.now new.samples (address + squares size)
     (decoded_behind (given_of t) size address tree d)
 seen_behind t size address plan old new tree d decodes seen same =
     let r = decodes d seen in
@@ -70,7 +75,8 @@ seen_behind t size address plan old new tree d decodes seen same =
     ap (λ u. or_else d (decoded_tree t.qp size (x0 t.place address) (y0 t.place address) u d))
     (sym same) ∙
     ap (or_else d) r.1 in
-    subst (λ e. AreSeen t.place [] t.near.now new.samples (address + squares size) e) (sym of_tree) r.2
+    subst (λ e. AreSeen t.place (references_of t) t.near.now new.samples (address + squares size) e)
+    (sym of_tree) r.2
 
 -- ---- the children of a node
 
@@ -165,6 +171,20 @@ module _ (t : Task) (size address : ℕ) (s0 s1 s2 s3 s4 : Block)
         names_four t.place (lists_of_plan s4.plan) size address inside lies_deeper first_stays.names
         second_stays.names third_stays.names fourth.names
 
+    -- with the vectors of its units too
+    abbrev moving : Plan
+    moving = lists_with_vectors s4.plan
+
+    moving_deeper : is_leaf (suc size) (slice_get moving.units address) ≡ false
+    moving_deeper =
+        let h = node.size_at_most in
+        not_leaf t.place moving size address (omega (arith, h)) inside first_stays.moving_names
+
+    moving_names : NamesNode t.place moving (suc size) address
+    moving_names =
+        names_four t.place moving size address inside moving_deeper first_stays.moving_names
+        second_stays.moving_names third_stays.moving_names fourth.moving_names
+
     module _ (before : Before) (here : Stands t s0 address before) where
       abbrev a : Tree
       a = Chosen t size address before
@@ -197,9 +217,9 @@ module _ (t : Task) (size address : ℕ) (s0 s1 s2 s3 s4 : Block)
           stands_at t s3 (address + 2 * n + n) (address + 3 * n) behind_c (omega arith)
           (third.stands behind_b after_b)
 
-      tree : node_of_plan t.place s4.plan (suc size) address ≡ split before
+      tree : moving_node t.place s4.plan (suc size) address ≡ split before
       tree =
-          split_node (lists_of_plan s4.plan) size address t.place inside lies_deeper ∙
+          split_node moving size address t.place inside moving_deeper ∙
           rw (
             first_stays.tree before here,
             second_stays.tree behind_a after_a,
@@ -207,11 +227,25 @@ module _ (t : Task) (size address : ℕ) (s0 s1 s2 s3 s4 : Block)
             fourth.tree behind_c after_c,
           ) refl
 
+      -- what is coded of each part, behind the earlier ones
+      coded : node_of_plan t.place s4.plan (suc size) address ≡
+          coded_node (given_of t) (suc size) address before (split before)
+      unfolding tree_with_differences
+      coded =
+          split_node (lists_of_plan s4.plan) size address t.place inside lies_deeper ∙
+          rw (
+            first_stays.coded before here,
+            second_stays.coded behind_a after_a,
+            third_stays.coded behind_b after_b,
+            fourth.coded behind_c after_c,
+          ) refl
+
       -- and decoded so
-      decodes : DecodesNode (lists_of_plan s4.plan) (suc size) address t.place t.qp [] t.near.now s0.samples s4.samples
+      decodes : DecodesNode moving (suc size) address t.place t.qp (references_of t) t.near.now
+          s0.samples s4.samples
       decodes =
-          split_by_children (lists_of_plan s4.plan) size address t.place t.qp [] t.near.now
-          s0.samples s1.samples s2.samples s3.samples s4.samples node inside lies_deeper
+          split_by_children moving size address t.place t.qp (references_of t) t.near.now
+          s0.samples s1.samples s2.samples s3.samples s4.samples node inside moving_deeper
           (decodes_by t size address s4.plan s0 s1 before.earlier few here.earlier
           first_stays.tree first.stands)
           (decodes_by t size (address + n) s4.plan s1 s2 behind_a.earlier few after_a.earlier
@@ -228,13 +262,21 @@ module _ (t : Task) (size address : ℕ) (s0 s1 s2 s3 s4 : Block)
             seen_behind t (suc size) address s4.plan s0 s4 (split before) before.decoded decodes
             here.decoded tree;
         earlier =
-            subst (λ u. Shows t.place (lists_of_plan s4.plan) (address + squares (suc size))
+            subst (λ u. Shows t.place moving (address + squares (suc size))
             (before.earlier ++ squares_of (suc size) u)) tree
-            (shows_behind t.place (suc size) address before.earlier s0 s4 here.earlier kept names);
+            (shows_behind t.place (suc size) address before.earlier s0 s4 here.earlier kept
+            moving_names);
       }
 
     four : Decides t (suc size) address split s0 s4
-    four = record { kept = kept; names = names; tree = tree; stands = stands }
+    four = record {
+      kept = kept;
+      names = names;
+      moving_names = moving_names;
+      tree = tree;
+      coded = coded;
+      stands = stands;
+    }
 
 -- by the code's step and size
 abbrev SplitDecides :

@@ -1,22 +1,21 @@
--- A node that is tried as one coding unit and split: what each costs, and the first that costs
--- least.
-use Rattle.std.proofs.Common.{◌≡◌, ℕ, zero, suc, ◌+◌, ◌-◌, ◌<◌, ◌≤◌, cond, refl, sym, ap, ap₂, subst, ◌∙◌, [], arith}
-use Rattle.std.specs.Prelude.{nat_lt}
+-- A node of which several trees are tried: what each costs, and the first that costs least.
+use Rattle.std.proofs.Common.{◌≡◌, ℕ, ◌+◌, ◌<◌, ◌≤◌, cond, List, [], ◌∷◌, ◌++◌, length, refl, sym, ap, ap₂, subst, ◌∙◌, arith, length-append}
+use Rattle.std.specs.Prelude.{nat_lt, Option, Some, None}
 use Rattle.hv_lemmas.proofs.ComparisonLemmas.{lt_below, lt_not_below}
 use Rattle.hv_block.specs.declared.block.Block.{Block}
 use Rattle.hv_tree_model.specs.Trees.{Tree}
 use Rattle.hv_tree_model.specs.Sites.{squares}
-use Rattle.hv_near.specs.Neighbours.{lists_of_plan}
 use Rattle.hv_near.specs.Squares.{Shows}
-use Rattle.hv_recon.specs.Leaves.{AreSeen}
-use Rattle.hv_recon.specs.DecodedNodes.{node_of_plan}
-use Rattle.hv_filter_model.specs.Costs.{cheaper}
-use Rattle.hv_mode_model.specs.ModeDecision.{Given, Before, behind, decoded_behind, coded_node, cost_of, split_of, best}
-use Rattle.hv_mode_model.proofs.IntraAloneLemmas.{TriesNone, unit_as_it_is, split_as_it_is}
+use Rattle.hv_recon.specs.Leaves.{AreSeen, lists_with_vectors}
+use Rattle.hv_recon.specs.DecodedNodes.{node_of_plan, IsNodeOfBlock}
+use Rattle.hv_filter_model.specs.Costs.{cheaper, first_least}
+use Rattle.hv_mode_model.specs.ModeDecision.{Given, Before, behind, decoded_behind, coded_node, cost_of, least_of}
 use Rattle.hv_mode.specs.declared.task.Task.{Task}
-use Rattle.hv_mode.specs.Nodes.{given_of, Stands, Decides, leaf_choice}
-use Rattle.hv_mode.specs.SplitNodes.{split_choice, tried_choice}
-use Rattle.hv_mode.proofs.FrameLemmas.{stands_since}
+use Rattle.hv_mode.specs.Nodes.{given_of, Stands, SameBefore, Decides, CopiesNode}
+use Rattle.hv_mode.specs.Vectors.{references_of}
+use Rattle.hv_mode.specs.WaitingNodes.{Tried, more_trees, least_tried, Costs, Waits, WaitsIf}
+use Rattle.hv_mode.proofs.FrameLemmas.{same_sym, same_trans, stands_since, restored}
+use Rattle.hv_mode.proofs.NodeFrameLemmas.{decides_kept}
 
 -- a choice that is the same wherever the node may stand
 pub decides_as : (t : Task) (size address : ℕ) (choice other : Before → Tree) (old new : Block) →
@@ -25,7 +24,11 @@ pub decides_as : (t : Task) (size address : ℕ) (choice other : Before → Tree
 decides_as t size address choice other old new same decides = record {
   kept = decides.kept;
   names = decides.names;
+  moving_names = decides.moving_names;
   tree = λ before here. decides.tree before here ∙ same before here;
+  coded = λ before here.
+      decides.coded before here ∙
+      ap (coded_node (given_of t) size address before) (same before here);
   stands = λ before here.
       subst (λ tree. Stands t new (address + squares size)
       (behind (given_of t) size address tree before)) (same before here)
@@ -38,50 +41,20 @@ decides_as t size address choice other old new same decides = record {
 abbrev pub CountsNode : Task → ℕ → ℕ → Block → ℕ → Type 0
 CountsNode t size address block result =
     (before : Before) (tree : Tree) →
-    Shows t.place (lists_of_plan block.plan) address before.earlier →
+    Shows t.place (lists_with_vectors block.plan) address before.earlier →
     coded_node (given_of t) size address before tree ≡
     node_of_plan t.place block.plan size address →
-    AreSeen t.place [] t.near.now block.samples (address + squares size)
+    AreSeen t.place (references_of t) t.near.now block.samples (address + squares size)
     (decoded_behind (given_of t) size address tree before.decoded) →
     result ≡ cost_of (given_of t) size address before tree
 
--- is that of the choice, wherever the node may stand
-abbrev pub Costs : Task → ℕ → ℕ → (Before → Tree) → Block → ℕ → Type 0
-Costs t size address choice old result =
-    (before : Before) → Stands t old address before →
-    result ≡ cost_of (given_of t) size address before (choice before)
-
--- a choice that is coded as it is: so far no unit has a vector
-abbrev pub IsCodedAsItIs : Task → ℕ → ℕ → (Before → Tree) → Type 0
-IsCodedAsItIs t size address choice =
-    (before : Before) →
-    coded_node (given_of t) size address before (choice before) ≡ choice before
-
-none_tried : (t : Task) → TriesNone (given_of t)
-none_tried t size address before entry = refl
-
-pub unit_as_chosen : (t : Task) (size address : ℕ) →
-    IsCodedAsItIs t size address (leaf_choice t size address)
-unit_as_chosen t size address before =
-    unit_as_it_is (given_of t) (none_tried t) size address before
-
-pub split_as_chosen : (t : Task) (size address : ℕ) → 0 < size →
-    IsCodedAsItIs t size address (split_choice t size address)
-split_as_chosen t zero address some before = absurd (omega (arith, some))
-split_as_chosen t (suc size) address some before =
-    let g : Given = given_of t in
-    let below : suc size - 1 ≡ size = omega arith in
-    subst (λ k. coded_node g (suc size) address before (split_of g k address before (best g k)) ≡
-    split_of g k address before (best g k)) (sym below)
-    (split_as_it_is g (none_tried t) size address before)
-
+-- is that of the choice
 pub costs_choice : (t : Task) (size address : ℕ) (choice : Before → Tree) (old new : Block)
-    (result : ℕ) → IsCodedAsItIs t size address choice → Decides t size address choice old new →
+    (result : ℕ) → Decides t size address choice old new →
     CountsNode t size address new result → Costs t size address choice old result
-costs_choice t size address choice old new result as_it_is decides counts before here =
+costs_choice t size address choice old new result decides counts before here =
     let there = stands_since t address before old new decides.kept here in
-    counts before (choice before) there.earlier
-    (as_it_is before ∙ sym (decides.tree before here))
+    counts before (choice before) there.earlier (sym (decides.coded before here))
     (decides.stands before here).decoded
 
 -- ---- the one that costs less
@@ -98,27 +71,150 @@ second_is_not f first second m n is_m is_n more =
     ap (λ test. cond test second first)
     (ap₂ nat_lt (sym is_n) (sym is_m) ∙ lt_not_below n m more)
 
-module _ (t : Task) (size address : ℕ) (old new : Block) (unit_cost split_cost : ℕ)
-    (of_unit : Costs t size address (leaf_choice t size address) old unit_cost)
-    (of_split : Costs t size address (split_choice t size address) old split_cost) where
-  pub split_wins : split_cost < unit_cost →
-      Decides t size address (split_choice t size address) old new →
-      Decides t size address (tried_choice t size address) old new
-  split_wins less decides =
-      decides_as t size address (split_choice t size address) (tried_choice t size address) old new
-      (λ before here.
-      sym (second_is_cheaper (cost_of (given_of t) size address before)
-      (leaf_choice t size address before) (split_choice t size address before) unit_cost split_cost
-      (of_unit before here) (of_split before here) less))
-      decides
+-- of one more tree, behind the others
+first_least_more : (f : Tree → ℕ) (first : Tree) (others : List Tree) (next : Tree) →
+    first_least f first (others ++ next ∷ []) ≡ cheaper f (first_least f first others) next
+first_least_more f first [] next = refl
+first_least_more f first (other ∷ others) next =
+    first_least_more f (cheaper f first other) others next
 
-  pub unit_wins : unit_cost ≤ split_cost →
-      Decides t size address (leaf_choice t size address) old new →
-      Decides t size address (tried_choice t size address) old new
-  unit_wins more decides =
-      decides_as t size address (leaf_choice t size address) (tried_choice t size address) old new
-      (λ before here.
-      sym (second_is_not (cost_of (given_of t) size address before)
-      (leaf_choice t size address before) (split_choice t size address before) unit_cost split_cost
-      (of_unit before here) (of_split before here) more))
-      decides
+least_more : (g : Given) (size address : ℕ) (before : Before) (trees : List Tree) (next : Tree) →
+    0 < length trees →
+    least_of g size address before (trees ++ next ∷ []) ≡
+    cheaper (cost_of g size address before) (least_of g size address before trees) next
+least_more g size address before [] next some = absurd (omega (arith, some))
+least_more g size address before (tree ∷ trees) next some =
+    first_least_more (cost_of g size address before) tree trees next
+
+-- ---- the one that waits
+
+pub is_none : {A : Type 0} (value : Option A) → ((x : A) → value ≡ Some x → ⊥) → value ≡ None
+is_none None other = refl
+is_none (Some x) other = absurd (other x refl)
+
+some_more : (trees : List Tree) (next : Tree) → 0 < length (trees ++ next ∷ [])
+some_more trees next = omega (arith, length-append trees (next ∷ []))
+
+-- trees that are the same wherever the node may stand
+pub waits_as : (t : Task) (size address : ℕ) (trees others : Tried) (old waiting : Block)
+    (least : Option ℕ) →
+    ((before : Before) → Stands t old address before → trees before ≡ others before) →
+    WaitsIf t size address trees old waiting least →
+    WaitsIf t size address others old waiting least
+waits_as t size address trees others old waiting None same none =
+    λ before here. sym (same before here) ∙ none before here
+waits_as t size address trees others old waiting (Some cost) same waits =
+    let g : Given = given_of t in record {
+      first = waits.first;
+      into = waits.into;
+      some = λ before here.
+          subst (λ list. 0 < length list) (same before here) (waits.some before here);
+      decided =
+          decides_as t size address (least_tried t size address trees)
+          (least_tried t size address others) old waits.first
+          (λ before here. ap (least_of g size address before) (same before here)) waits.decided;
+      copied = waits.copied;
+      costs = λ before here.
+          waits.costs before here ∙
+          ap (λ list. cost_of g size address before (least_of g size address before list))
+          (same before here);
+    }
+
+module _ (t : Task) (size address : ℕ) (trees : Tried) (choice : Before → Tree)
+    (old out waiting new : Block) (next : ℕ) (decides : Decides t size address choice old out)
+    (counts : CountsNode t size address out next) where
+  abbrev g : Given
+  g = given_of t
+
+  of_next : Costs t size address choice old next
+  of_next = costs_choice t size address choice old out next decides counts
+
+  -- the new one was copied, where it is the first of least cost
+  copied_waits : CopiesNode size address out waiting new →
+      ((before : Before) → Stands t old address before →
+      choice before ≡ least_tried t size address (more_trees trees choice) before) →
+      Waits t size address (more_trees trees choice) old new next
+  copied_waits copies is = record {
+    first = out;
+    into = waiting;
+    some = λ before here. some_more (trees before) (choice before);
+    decided =
+        decides_as t size address choice
+        (least_tried t size address (more_trees trees choice)) old out is decides;
+    copied = copies;
+    costs = λ before here.
+        of_next before here ∙ ap (cost_of g size address before) (is before here);
+  }
+
+  -- nothing was tried before
+  pub first_waits : WaitsIf t size address trees old waiting None →
+      CopiesNode size address out waiting new →
+      Waits t size address (more_trees trees choice) old new next
+  first_waits none copies =
+      copied_waits copies (λ before here.
+      sym (ap (λ list. least_of g size address before (list ++ choice before ∷ []))
+      (none before here)))
+
+  module _ (least : ℕ) (waits : Waits t size address trees old waiting least) where
+    both : (before : Before) → Stands t old address before →
+        least_tried t size address (more_trees trees choice) before ≡
+        cheaper (cost_of g size address before) (least_tried t size address trees before)
+        (choice before)
+    both before here =
+        least_more g size address before (trees before) (choice before) (waits.some before here)
+
+    -- it costs less than what waits
+    next_is_least : next < least → (before : Before) → Stands t old address before →
+        choice before ≡ least_tried t size address (more_trees trees choice) before
+    next_is_least less before here =
+        sym (both before here ∙
+        second_is_cheaper (cost_of g size address before)
+        (least_tried t size address trees before) (choice before) least next
+        (waits.costs before here) (of_next before here) less)
+
+    pub next_waits : next < least → CopiesNode size address out waiting new →
+        Waits t size address (more_trees trees choice) old new next
+    next_waits less copies = copied_waits copies (next_is_least less)
+
+    pub next_decides : next < least →
+        Decides t size address (least_tried t size address (more_trees trees choice)) old out
+    next_decides less =
+        decides_as t size address choice
+        (least_tried t size address (more_trees trees choice)) old out (next_is_least less) decides
+
+    -- or it doesn't
+    pub still_waits : least ≤ next →
+        Waits t size address (more_trees trees choice) old waiting least
+    still_waits more = record {
+      first = waits.first;
+      into = waits.into;
+      some = λ before here. some_more (trees before) (choice before);
+      decided =
+          decides_as t size address (least_tried t size address trees)
+          (least_tried t size address (more_trees trees choice)) old waits.first still
+          waits.decided;
+      copied = waits.copied;
+      costs = λ before here.
+          waits.costs before here ∙ ap (cost_of g size address before) (still before here);
+    } where
+      still : (before : Before) → Stands t old address before →
+          least_tried t size address trees before ≡
+          least_tried t size address (more_trees trees choice) before
+      still before here =
+          sym (both before here ∙
+          second_is_not (cost_of g size address before)
+          (least_tried t size address trees before) (choice before) least next
+          (waits.costs before here) (of_next before here) more)
+
+-- what waits is copied back, whatever was tried meanwhile
+pub waiting_decides : (t : Task) (size address : ℕ) (trees : Tried)
+    (old waiting tried new : Block) (cost : ℕ) → IsNodeOfBlock size address →
+    Waits t size address trees old waiting cost → SameBefore address old tried →
+    CopiesNode size address waiting tried new →
+    Decides t size address (least_tried t size address trees) old new
+waiting_decides t size address trees old waiting tried new cost node waits kept back =
+    decides_kept t size address (least_tried t size address trees) old waits.first new node
+    waits.decided
+    (restored size address waits.first waits.into waiting tried new waits.copied
+    (same_trans address waits.first old tried
+    (same_sym address old waits.first waits.decided.kept) kept) back)

@@ -1,6 +1,12 @@
 pub mod Copies
 pub mod LumaModes
+pub mod Motions
 pub mod NodeErrors
 pub mod Nodes
 pub mod SplitNodes
 pub mod Pictures
+pub mod Predictors
+pub mod InterChoices
+pub mod InterLevels
+pub mod Vectors
+pub mod WaitingNodes

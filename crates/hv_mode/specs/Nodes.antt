@@ -1,35 +1,45 @@
 -- A node of a coding tree block of the code: what is chosen for it behind whatever stands before
 -- it, in one block that is written.
-use Rattle.std.specs.Prelude.{◌≡◌, ℕ, ◌+◌, ◌*◌, ◌<◌, true, false, List, take, []}
+use Rattle.std.specs.Prelude.{◌≡◌, ℕ, ◌+◌, ◌*◌, ◌<◌, true, false, List, take}
 use Rattle.hv_block.specs.declared.block.Block.{Block}
+use Rattle.hv_block.specs.Plans.{CtbPlan}
 use Rattle.hv_tree_model.specs.Trees.{Tree, Leaf, Intra, no_units}
-use Rattle.hv_tree_model.specs.Sites.{squares}
+use Rattle.hv_tree_model.specs.Sites.{Site, squares}
 use Rattle.hv_tree_model.specs.MostProbableModes.{dc}
-use Rattle.hv_tree_model.specs.Plans.{part, in_block}
+use Rattle.hv_tree_model.specs.Plans.{part, in_block, tree_at}
+use Rattle.hv_vector_model.specs.Vectors.{around_with_vectors}
+use Rattle.hv_amvp.specs.Entries.{entries}
 use Rattle.hv_near.specs.Neighbours.{lists_of_plan, around_of}
 use Rattle.hv_near.specs.Squares.{Shows, NamesNode}
 use Rattle.hv_recon_model.specs.SeenSamples.{by_rows, comes_before}
-use Rattle.hv_recon.specs.Leaves.{AreSeen}
+use Rattle.hv_recon.specs.Leaves.{AreSeen, lists_with_vectors}
 use Rattle.hv_recon.specs.DecodedNodes.{node_of_plan}
-use Rattle.hv_mode_model.specs.ModeDecision.{Given, Before, nothing_found, behind, leaf, luma_mode}
+use Rattle.hv_mode_model.specs.ModeDecision.{Given, Before, behind, leaf, coded_node, luma_mode}
 use Rattle.hv_mode.specs.declared.task.Task.{Task}
+use Rattle.hv_mode.specs.Vectors.{references_of, vectors_of}
 
--- what is given for the block, as the definitions have it: so far nothing of other pictures
+-- what is given for the block, as the definitions have it: the units around have vectors
 abbrev pub given_of : Task → Given
 given_of t = record {
   effort = t.effort;
   qp = t.qp;
   input = t.input.now;
-  surroundings = in_block t.kind t.references t.place (around_of t.near.now);
-  distances = [];
-  vectors = nothing_found;
+  surroundings =
+      in_block t.kind t.references t.place (around_with_vectors (around_of t.near.now));
+  distances = entries t.distances;
+  vectors = vectors_of t;
 }
 
+-- the coding quadtree of a node of the plan, with vectors
+abbrev pub moving_node : Site → CtbPlan → ℕ → ℕ → Tree
+moving_node place plan size address = tree_at place (lists_with_vectors plan) size address
+
 -- Where a choice begins stands so in a block, at an address: what is decoded of the picture is seen
--- from it, and the squares that were chosen so far are those of its plan.
+-- from it, and the squares that were chosen so far are those of its plan with vectors.
 pub record Stands (t : Task) (block : Block) (address : ℕ) (before : Before) : Type 0 where
-  pub decoded : AreSeen t.place [] t.near.now block.samples address before.decoded
-  pub earlier : Shows t.place (lists_of_plan block.plan) address before.earlier
+  pub decoded :
+      AreSeen t.place (references_of t) t.near.now block.samples address before.decoded
+  pub earlier : Shows t.place (lists_with_vectors block.plan) address before.earlier
 
 -- ---- two blocks that have the same before an address, in decoding order
 
@@ -50,16 +60,22 @@ pub record SameBefore (address : ℕ) (old new : Block) : Type 0 where
 
 -- ---- a node that is chosen
 
--- Whatever stands before the node, the new block has the tree that is chosen behind it, and what is
--- behind that tree stands in it again. What comes before the node is kept, and its units name its
--- coding units. Nothing is said of what comes behind it.
+-- Whatever stands before the node, the new block has, with vectors, the tree that is chosen behind
+-- it, and as it is coded what is coded of that tree; what is behind the tree stands in the block
+-- again. What comes before the node is kept, and its units name its coding units, with vectors too.
+-- Nothing is said of what comes behind it.
 pub record Decides
     (t : Task) (size address : ℕ) (choice : Before → Tree) (old new : Block) : Type 0 where
   pub kept : SameBefore address old new
   pub names : NamesNode t.place (lists_of_plan new.plan) size address
+  pub moving_names : NamesNode t.place (lists_with_vectors new.plan) size address
   pub tree :
       (before : Before) → Stands t old address before →
-      node_of_plan t.place new.plan size address ≡ choice before
+      moving_node t.place new.plan size address ≡ choice before
+  pub coded :
+      (before : Before) → Stands t old address before →
+      node_of_plan t.place new.plan size address ≡
+      coded_node (given_of t) size address before (choice before)
   pub stands :
       (before : Before) → Stands t old address before →
       Stands t new (address + squares size)

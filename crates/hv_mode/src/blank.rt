@@ -28,8 +28,8 @@ pub(crate) fn decide_blank(task: &Task<'_>, size: u8, address: u8, out: &mut Blo
         task.place,
         task.qp,
         task.near,
-        None,
-        None,
+        task.first,
+        task.second,
         &mut out.samples,
     );
 }

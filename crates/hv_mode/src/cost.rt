@@ -1,16 +1,17 @@
 //! What a node costs: how far its samples are from the input, and its bins by their weight.
 
-ghost use Rattle.std.specs.Prelude.{◌≡◌, ◌+◌, ◌^◌, ◌<◌, ◌≤◌, List, length, []};
+ghost use Rattle.std.specs.Prelude.{◌≡◌, ◌+◌, ◌^◌, ◌<◌, ◌≤◌, List, length};
 ghost use Rattle.hv_tree_model.specs.Trees.{Tree, side};
 ghost use Rattle.hv_tree_model.specs.Sites.{squares, x0, y0};
 ghost use Rattle.hv_tree_model.specs.EarlierUnits.{Square};
 ghost use Rattle.hv_unit_model.specs.Bins.{bins_of_node};
 ghost use Rattle.hv_near.specs.Neighbours.{lists_of_plan};
 ghost use Rattle.hv_near.specs.Squares.{Shows, NamesNode};
-ghost use Rattle.hv_recon.specs.Leaves.{AreSeen};
+ghost use Rattle.hv_recon.specs.Leaves.{AreSeen, lists_with_vectors};
 ghost use Rattle.hv_recon.specs.DecodedNodes.{node_of_plan, IsNodeOfBlock};
 ghost use Rattle.hv_mode_model.specs.ModeDecision.{Before, decoded_behind, coded_node, cost_of};
 ghost use Rattle.hv_mode.specs.Nodes.{given_of};
+ghost use Rattle.hv_mode.specs.Vectors.{references_of};
 
 use crate::errors::node_errors;
 use crate::task::Task;
@@ -20,12 +21,13 @@ use hv_near::{column_of, row_of};
 use hv_plan::Node;
 use hv_syntax::count_node;
 
-/// How many bins a node of a block has, by its plan (7.3.8.4).
+/// How many bins a node of a block has, by its plan (7.3.8.4), behind squares that have their
+/// vectors: no bin reads these.
 fn node_bins(task: &Task<'_>, size: u8, address: u8, block: &Block) -> u64
     requires node { IsNodeOfBlock size address }
     requires names { NamesNode task.now.place (lists_of_plan block.now.plan) size address }
     ensures value { (earlier : List Square) →
-        Shows task.now.place (lists_of_plan block.now.plan) address earlier →
+        Shows task.now.place (lists_with_vectors block.now.plan) address earlier →
         result ≡ length (bins_of_node (given_of task.now).surroundings size address earlier
         (node_of_plan task.now.place block.now.plan size address)) }
     ensures most { result < 2 ^ 46 }
@@ -55,10 +57,11 @@ pub(crate) fn cost_node(task: &Task<'_>, size: u8, address: u8, block: &Block) -
     requires bottom { y0 task.now.place address + side size ≤ task.now.place.height }
     requires names { NamesNode task.now.place (lists_of_plan block.now.plan) size address }
     ensures { (before : Before) (tree : Tree) →
-        Shows task.now.place (lists_of_plan block.now.plan) address before.earlier →
+        Shows task.now.place (lists_with_vectors block.now.plan) address before.earlier →
         coded_node (given_of task.now) size address before tree ≡
         node_of_plan task.now.place block.now.plan size address →
-        AreSeen task.now.place [] task.now.near.now block.now.samples (address + squares size)
+        AreSeen task.now.place (references_of task.now) task.now.near.now block.now.samples
+        (address + squares size)
         (decoded_behind (given_of task.now) size address tree before.decoded) →
         result ≡ cost_of (given_of task.now) size address before tree }
 {

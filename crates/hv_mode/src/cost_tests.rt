@@ -5,11 +5,10 @@ ghost use Rattle.hv_types.specs.Video.{IsPicture};
 
 use crate::cost::cost_node;
 use crate::errors::node_errors;
-use crate::task::Task;
+use crate::tasks_for_tests::intra_task;
 use hv_block::{Block, Neighbours};
-use hv_plan::{Node, Place, Pred};
+use hv_plan::{Node, Pred};
 use hv_syntax::names_its_node;
-use hv_tables::SliceKind;
 use hv_types::{NoMemory, Picture, Plane};
 use std::alloc::Global;
 use std::test::Fail;
@@ -37,32 +36,19 @@ fn block(alloc: Global) -> Result<Block, NoMemory> {
 fn measured(input: &Picture, block: &Block) -> Option<(u64, u64)>
     requires { IsPicture 8 8 input.now }
 {
-    let place = Place {
-        width: 8,
-        height: 8,
-        index: 0,
-    };
     let near = Neighbours {
         left: None,
         above_left: None,
         above: None,
         above_right: None,
     };
-    let task = Task {
-        effort: 1,
-        qp: 30,
-        input,
-        kind: SliceKind::I,
-        references: 0,
-        place,
-        near: &near,
-    };
+    let task = intra_task(input, &near, 8);
     let node = Node {
         depth: 3,
         x: 0,
         y: 0,
     };
-    if !names_its_node(place, &block.plan, node) {
+    if !names_its_node(task.place, &block.plan, node) {
         return None;
     }
     Some((

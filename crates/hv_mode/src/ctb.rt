@@ -1,15 +1,17 @@
 //! The choice of a coding tree block.
 
-ghost use Rattle.std.specs.Prelude.{◌≡◌, []};
+ghost use Rattle.std.specs.Prelude.{◌≡◌};
 ghost use Rattle.hv_block.specs.Samples.{Samples};
 ghost use Rattle.hv_tree_model.specs.Trees.{greatest_size};
 ghost use Rattle.hv_tree_model.specs.Plans.{tree_of, NamesItsUnits};
 ghost use Rattle.hv_recon_model.specs.Reconstruction.{Decoded};
-ghost use Rattle.hv_recon.specs.Leaves.{AreSeen};
+ghost use Rattle.hv_recon.specs.Leaves.{AreSeen, lists_with_vectors};
 ghost use Rattle.hv_recon.specs.DecodedNodes.{DecodesBlock};
 ghost use Rattle.hv_near.specs.Neighbours.{lists_of_plan};
-ghost use Rattle.hv_mode_model.specs.ModeDecision.{best};
+ghost use Rattle.hv_mode_model.specs.ModeDecision.{coded_node, best};
 ghost use Rattle.hv_mode.specs.Nodes.{given_of, Decides};
+ghost use Rattle.hv_mode.specs.Pictures.{before_block};
+ghost use Rattle.hv_mode.specs.Vectors.{references_of};
 
 use crate::node::decide_node;
 use crate::task::Task;
@@ -17,11 +19,11 @@ use hv_block::Block;
 use hv_types::NoMemory;
 use std::alloc::Global;
 
-/// Room for the choice of a block: a block for each size of node that may be split. It is made
-/// once, and what is in it never matters.
+/// Room for the choice of a block: a block for each size of node, where the best unit so far
+/// waits. It is made once, and what is in it never matters.
 #[derive(Drop)]
 pub struct Room {
-    blocks: [Block; 3],
+    blocks: [Block; 4],
 }
 
 impl Room {
@@ -30,8 +32,9 @@ impl Room {
         let first = Block::new(alloc)?;
         let second = Block::new(alloc)?;
         let third = Block::new(alloc)?;
+        let fourth = Block::new(alloc)?;
         Ok(Room {
-            blocks: [first, second, third],
+            blocks: [first, second, third, fourth],
         })
     }
 }
@@ -40,18 +43,25 @@ impl Room {
 /// `out` held.
 ///
 /// Whatever is decoded of the picture so far, and is seen from the block by the edges of the blocks
-/// around it, the plan's coding quadtree is the one that is chosen behind it, and decoding of that
-/// tree gives the samples. It takes no memory and always answers.
+/// around it, the plan's coding quadtree with vectors is the one that is chosen behind it, and
+/// decoding of that tree gives the samples. As it lies in the plan the tree is what is coded of it:
+/// differences in the place of vectors. It takes no memory and always answers.
 pub fn decide_ctb(task: &Task<'_>, room: &mut Room, out: &mut Block)
     ensures decides { Decides task.now greatest_size 0 (best (given_of task.now) greatest_size 0)
         out.old out.new }
     ensures tree { (own : Samples) (d : Decoded) →
-        AreSeen task.now.place [] task.now.near.now own 0 d →
+        AreSeen task.now.place (references_of task.now) task.now.near.now own 0 d →
+        tree_of task.now.place (lists_with_vectors out.new.plan) ≡
+        best (given_of task.now) greatest_size 0 (before_block d) }
+    ensures coded { (own : Samples) (d : Decoded) →
+        AreSeen task.now.place (references_of task.now) task.now.near.now own 0 d →
         tree_of task.now.place (lists_of_plan out.new.plan) ≡
-        best (given_of task.now) greatest_size 0 record { decoded = d; earlier = [] } }
+        coded_node (given_of task.now) greatest_size 0 (before_block d)
+        (best (given_of task.now) greatest_size 0 (before_block d)) }
     ensures names { NamesItsUnits task.now.place (lists_of_plan out.new.plan) }
-    ensures decodes { DecodesBlock (lists_of_plan out.new.plan) task.now.place task.now.qp []
-        task.now.near.now out.new.samples }
+    ensures moving_names { NamesItsUnits task.now.place (lists_with_vectors out.new.plan) }
+    ensures decodes { DecodesBlock (lists_with_vectors out.new.plan) task.now.place task.now.qp
+        (references_of task.now) task.now.near.now out.new.samples }
 {
     decide_node(task, &mut room.blocks, 3, 0, out);
 }
@@ -59,9 +69,9 @@ pub fn decide_ctb(task: &Task<'_>, room: &mut Room, out: &mut Block)
 #[cfg(test)]
 mod tests {
     use super::*;
+    use crate::tasks_for_tests::intra_task;
     use hv_block::Neighbours;
-    use hv_plan::{Place, Pred};
-    use hv_tables::SliceKind;
+    use hv_plan::Pred;
     use hv_types::{Picture, Plane};
     use std::test::Fail;
 
@@ -89,19 +99,7 @@ mod tests {
             above: None,
             above_right: None,
         };
-        let task = Task {
-            effort: 1,
-            qp: 30,
-            input: &input,
-            kind: SliceKind::I,
-            references: 0,
-            place: Place {
-                width: 64,
-                height: 64,
-                index: 0,
-            },
-            near: &near,
-        };
+        let task = intra_task(&input, &near, 64);
         let mut room = Room::new(alloc)?;
         let mut out = Block::new(alloc)?;
         out.plan.set_leaf(0, 0, Pred::Intra { mode: 7 });

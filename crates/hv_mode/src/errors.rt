@@ -1,6 +1,6 @@
 //! How far the samples of a node are from the input: the sum of squared differences.
 
-ghost use Rattle.std.specs.Prelude.{◌≡◌, ◌+◌, ◌*◌, ◌/◌, ◌^◌, ◌<◌, ◌≤◌, length, drop, []};
+ghost use Rattle.std.specs.Prelude.{◌≡◌, ◌+◌, ◌*◌, ◌/◌, ◌^◌, ◌<◌, ◌≤◌, length, drop};
 ghost use Rattle.hv_tree_model.specs.Trees.{side};
 ghost use Rattle.hv_tree_model.specs.Sites.{column_of, row_of, squares, x0, y0};
 ghost use Rattle.hv_recon_model.specs.Reconstruction.{Decoded};
@@ -10,6 +10,7 @@ ghost use Rattle.hv_mode_model.specs.ModeDecision.{squared_errors, node_square};
 ghost use Rattle.hv_kernel.specs.Blocks.{ssd_of_blocks};
 ghost use Rattle.hv_mode.specs.NodeErrors.{errors_by_rows, IsLumaOfNode, IsChromaOf, Fit};
 ghost use Rattle.hv_mode.specs.Nodes.{given_of};
+ghost use Rattle.hv_mode.specs.Vectors.{references_of};
 
 use crate::square::{NodeSquares, Square};
 use crate::task::Task;
@@ -127,7 +128,7 @@ fn chroma_square(luma: Square) -> Square
 }
 
 /// The samples of a node that lies in the picture.
-fn node_squares(task: &Task<'_>, size: u8, address: u8) -> NodeSquares
+pub(crate) fn node_squares(task: &Task<'_>, size: u8, address: u8) -> NodeSquares
     requires node { IsNodeOfBlock size address }
     requires right { x0 task.now.place address + side size ≤ task.now.place.width }
     requires bottom { y0 task.now.place address + side size ≤ task.now.place.height }
@@ -150,7 +151,8 @@ pub(crate) fn node_errors(task: &Task<'_>, size: u8, address: u8, samples: &Samp
     requires right { x0 task.now.place address + side size ≤ task.now.place.width }
     requires bottom { y0 task.now.place address + side size ≤ task.now.place.height }
     ensures value { (d : Decoded) →
-        AreSeen task.now.place [] task.now.near.now samples.now (address + squares size) d →
+        AreSeen task.now.place (references_of task.now) task.now.near.now samples.now
+        (address + squares size) d →
         result ≡
         squared_errors task.now.input.now d (node_square (given_of task.now) size address) }
     ensures most { result < 2 ^ 34 }

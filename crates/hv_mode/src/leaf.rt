@@ -8,13 +8,11 @@ ghost use Rattle.hv_tree_model.specs.Trees.{side};
 ghost use Rattle.hv_tree_model.specs.Sites.{column_of, row_of, x0, y0, is_outside};
 ghost use Rattle.hv_tree_model.specs.EarlierUnits.{Square};
 ghost use Rattle.hv_tree_model.specs.MostProbableModes.{candidates};
-ghost use Rattle.hv_tree_model.specs.Plans.{in_block};
-ghost use Rattle.hv_near.specs.Neighbours.{lists_of_plan, around_of};
 ghost use Rattle.hv_near.specs.Squares.{Shows};
 ghost use Rattle.hv_recon_model.specs.SeenSamples.{luma_spot, seen_line};
 ghost use Rattle.hv_recon.specs.Coding.{input_block};
 ghost use Rattle.hv_recon.specs.DecodedNodes.{IsNodeOfBlock};
-ghost use Rattle.hv_recon.specs.Leaves.{luma_around};
+ghost use Rattle.hv_recon.specs.Leaves.{lists_with_vectors, luma_around};
 ghost use Rattle.hv_mode_model.specs.ModeDecision.{Before, luma_mode};
 ghost use Rattle.hv_mode.specs.LumaModes.{mode_of_block};
 ghost use Rattle.hv_mode.specs.Nodes.{given_of, Stands, Decides, leaf_choice};
@@ -39,10 +37,9 @@ fn mode_of<const COUNT: usize>(task: &Task<'_>, log2: u8, address: u8, out: &Blo
     requires high { y0 task.now.place address + 2 ^ log2 ≤ task.now.input.now.luma.height }
     ensures most { result ≤ 34 }
     ensures mode { (earlier : List Square) →
-        Shows task.now.place (lists_of_plan out.now.plan) address earlier →
+        Shows task.now.place (lists_with_vectors out.now.plan) address earlier →
         result ≡ mode_of_block log2 task.now.qp task.now.effort
-        (candidates (in_block task.now.kind task.now.references task.now.place
-        (around_of task.now.near.now)) address earlier)
+        (candidates (given_of task.now).surroundings address earlier)
         (input_block task.now.input.now.luma (x0 task.now.place address)
         (y0 task.now.place address) log2)
         (substituted (seen_line (luma_spot task.now.place) (luma_around task.now.near.now)

@@ -9,14 +9,24 @@ mod cost;
 mod cost_tests;
 mod ctb;
 mod errors;
+mod found;
+mod inter;
+mod inter_choice;
+mod inter_leaf;
+mod inter_levels;
+mod inter_unit;
 mod laws;
 mod leaf;
 mod luma_mode;
 mod node;
 mod picture;
 mod picture_task;
+mod predictor;
 mod square;
 mod task;
+#[cfg(test)]
+mod tasks_for_tests;
+mod tried;
 
 pub use ctb::{Room, decide_ctb};
 pub use laws::luma_modes_are_those_of_blocks;

@@ -12,8 +12,8 @@ ghost use Rattle.hv_mode.specs.SplitNodes.{split_choice, tried_choice};
 use crate::blank::decide_blank;
 use crate::copy::copy_node;
 use crate::cost::cost_node;
-use crate::leaf::decide_leaf;
 use crate::task::Task;
+use crate::tried::try_units;
 use hv_block::Block;
 use hv_near::{Site, crosses, is_outside, squares};
 use hv_plan::Place;
@@ -38,8 +38,8 @@ fn must_split(place: Place, size: u8, address: u8) -> bool
 
 /// Decides a node, whatever stands before it in `out`: it is chosen as the definition has it behind
 /// what is decided before, and its samples are those that are decoded. What comes before it is
-/// kept. `room` has a block for each size up to the node's but the least; what is in it never
-/// matters. It takes no memory.
+/// kept. `room` has a block for each size up to the node's; what is in it never matters. It takes
+/// no memory.
 #[cycle(deciding)]
 pub(crate) fn decide_node(
     task: &Task<'_>,
@@ -49,7 +49,7 @@ pub(crate) fn decide_node(
     out: &mut Block,
 )
     requires node { IsNodeOfBlock size address }
-    requires room { size ≤ length room.old }
+    requires room { size < length room.old }
     ensures { Decides task.now size address (best (given_of task.now) size address)
         out.old out.new }
 {
@@ -68,42 +68,39 @@ fn decide_inside(task: &Task<'_>, room: &mut [Block], size: u8, address: u8, out
     requires node { IsNodeOfBlock size address }
     requires right { x0 task.now.place address + side size ≤ task.now.place.width }
     requires bottom { y0 task.now.place address + side size ≤ task.now.place.height }
-    requires room { size ≤ length room.old }
+    requires room { size < length room.old }
     ensures { Decides task.now size address (best (given_of task.now) size address)
         out.old out.new }
 {
     if task.effort == 0 {
         return decide_blank(task, size, address, out);
     }
-    if size == 0 {
-        return decide_leaf(task, size, address, out);
-    }
     decide_tried(task, room, size, address, out);
 }
 
-/// Decides a node that lies in the picture, as one coding unit or split: what costs less, and one
-/// unit where both cost the same. The unit waits in a block of `room` while the split is tried.
+/// Decides a node that lies in the picture, as one coding unit in each way that is tried, or split:
+/// the first of least cost. The best unit waits in a block of `room` while the split is tried.
 #[cycle(deciding)]
 fn decide_tried(task: &Task<'_>, room: &mut [Block], size: u8, address: u8, out: &mut Block)
     requires node { IsNodeOfBlock size address }
     requires right { x0 task.now.place address + side size ≤ task.now.place.width }
     requires bottom { y0 task.now.place address + side size ≤ task.now.place.height }
-    requires room { size ≤ length room.old }
-    requires parts { 0 < size }
+    requires room { size < length room.old }
     ensures { Decides task.now size address (tried_choice task.now size address)
         out.old out.new }
 {
-    let (lower, mine) = room.split_at_mut(usize::from(size - 1));
-    let unit = &mut mine[0];
-    decide_leaf(task, size, address, out);
-    let unit_cost = cost_node(task, size, address, out);
-    copy_node(size, address, out, unit);
+    let (lower, mine) = room.split_at_mut(usize::from(size));
+    let waiting = &mut mine[0];
+    let least = try_units(task, size, address, out, waiting);
+    if size == 0 {
+        return copy_node(size, address, waiting, out);
+    }
     decide_split(task, lower, size, address, out);
     let split_cost = cost_node(task, size, address, out);
-    if split_cost < unit_cost {
+    if split_cost < least {
         return;
     }
-    copy_node(size, address, unit, out);
+    copy_node(size, address, waiting, out);
 }
 
 /// Decides a node that is split: its four parts in z-scan order, each behind the earlier ones.
@@ -111,7 +108,7 @@ fn decide_tried(task: &Task<'_>, room: &mut [Block], size: u8, address: u8, out:
 fn decide_split(task: &Task<'_>, room: &mut [Block], size: u8, address: u8, out: &mut Block)
     requires node { IsNodeOfBlock size address }
     requires begins { is_outside task.now.place address ≡ false }
-    requires room { size - 1 ≤ length room.old }
+    requires room { size ≤ length room.old }
     requires parts { 0 < size }
     ensures { Decides task.now size address (split_choice task.now size address)
         out.old out.new }

@@ -6,9 +6,10 @@ ghost use Rattle.hv_tree_model.specs.Sites.{site, sites, blocks_over};
 ghost use Rattle.hv_tree_model.specs.Plans.{IsPlan};
 ghost use Rattle.hv_near.specs.Neighbours.{lists_of_plan};
 ghost use Rattle.hv_recon_model.specs.Reconstruction.{nothing_decoded};
-ghost use Rattle.hv_recon.specs.DecodedBlocks.{trees_of, AreOfBlocks};
-ghost use Rattle.hv_mode_model.specs.ModeDecision.{best_trees, best_decoded};
-ghost use Rattle.hv_mode.specs.Pictures.{task_of, plans_of, NameTheirUnits, DecidesBlock};
+ghost use Rattle.hv_recon.specs.DecodedBlocks.{trees_of, moving_trees_of, AreOfBlocks};
+ghost use Rattle.hv_mode_model.specs.ModeDecision.{best_trees, best_decoded, coded_trees};
+ghost use Rattle.hv_mode.specs.Pictures.{task_of, plans_of, moving_plans_of, NameTheirUnits, DecidesBlock};
+ghost use Rattle.hv_mode.specs.Vectors.{references_for};
 
 use crate::ctb::{Room, decide_ctb};
 use crate::picture_task::PictureTask;
@@ -19,20 +20,26 @@ use hv_plan::Place;
 /// Decides the coding tree blocks of a picture in raster order: the plan of each, and its samples
 /// before the in-loop filters, whatever `blocks` held. There is one for each place of the picture.
 ///
-/// The coding quadtrees are those that are chosen in the picture, each behind all earlier ones, and
-/// all that is decoded is what the blocks have. It takes no memory and always answers.
+/// The coding quadtrees with vectors are those that are chosen in the picture, each behind all
+/// earlier ones; as they lie in the plans they are what is coded of those, and all that is decoded
+/// is what the blocks have. It takes no memory and always answers.
 pub fn decide_blocks(task: &PictureTask<'_>, room: &mut Room, blocks: &mut Vec<Block>)
     requires { length blocks.old.items ≡
         blocks_over task.now.width * blocks_over task.now.height }
     ensures count { length blocks.new.items ≡ length blocks.old.items }
     ensures trees { trees_of task.now.width task.now.height blocks.new.items ≡
+        coded_trees (task_of task.now) (sites task.now.width task.now.height) []
+        (nothing_decoded (references_for task.now)) }
+    ensures moving { moving_trees_of task.now.width task.now.height blocks.new.items ≡
         best_trees (task_of task.now) (sites task.now.width task.now.height) []
-        (nothing_decoded []) }
+        (nothing_decoded (references_for task.now)) }
     ensures decoded { AreOfBlocks task.now.width task.now.height blocks.new.items
         (best_decoded (task_of task.now) (sites task.now.width task.now.height) []
-        (nothing_decoded [])) }
+        (nothing_decoded (references_for task.now))) }
     ensures names { NameTheirUnits task.now.width task.now.height
         (plans_of blocks.new.items) }
+    ensures moving_names { NameTheirUnits task.now.width task.now.height
+        (moving_plans_of blocks.new.items) }
 {
     let count = task.width.div_ceil(64) * task.height.div_ceil(64);
     for index in 0..count {
@@ -43,8 +50,8 @@ pub fn decide_blocks(task: &PictureTask<'_>, room: &mut Room, blocks: &mut Vec<B
 /// Decides the block of this number, behind those before it.
 fn decide_block(task: &PictureTask<'_>, room: &mut Room, index: u32, blocks: &mut Vec<Block>)
     requires { index < length blocks.old.items }
-    ensures { DecidesBlock (task_of task.now) (site task.now.width task.now.height index)
-        blocks.old.items blocks.new.items }
+    ensures { DecidesBlock (task_of task.now) (references_for task.now)
+        (site task.now.width task.now.height index) blocks.old.items blocks.new.items }
 {
     let place = Place {
         width: task.width,
@@ -60,6 +67,10 @@ fn decide_block(task: &PictureTask<'_>, room: &mut Room, index: u32, blocks: &mu
         references: task.references,
         place,
         near: &near,
+        distances: task.distances,
+        motion: task.motion,
+        first: task.first,
+        second: task.second,
     };
     let block = &mut blocks[index as usize];
     decide_ctb(&one, room, block);

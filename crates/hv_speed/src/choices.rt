@@ -6,6 +6,7 @@ ghost use Rattle.hv_types.specs.Video.{IsPicture};
 
 use crate::levels::sum_of;
 use anyhow::bail;
+use hv_amvp::Distances;
 use hv_block::{Block, Neighbours, neighbours_of};
 use hv_mode::{PictureTask, Room, Task, decide_blocks, decide_ctb};
 use hv_plan::Place;
@@ -118,6 +119,13 @@ fn edges_around(
         references: 0,
         width: SIDE,
         height: SIDE,
+        distances: Distances {
+            first: 0,
+            second: 0,
+        },
+        motion: None,
+        first: None,
+        second: None,
     };
     let mut blocks = Vec::new(alloc);
     for _ in 0..4 {
@@ -131,6 +139,30 @@ fn edges_around(
     }
     decide_blocks(&task, room, &mut blocks);
     Ok(neighbours_of(PLACE, &blocks))
+}
+
+/// What is given for the last block, of an I slice.
+fn last_task<'a>(effort: u8, qp: u8, input: &'a Picture, near: &'a Neighbours) -> Task<'a>
+    requires whole { IsPicture 128 128 input.now }
+    requires known { effort ≤ 2 }
+    requires quantiser { qp ≤ 51 }
+{
+    Task {
+        effort,
+        qp,
+        input,
+        kind: SliceKind::I,
+        references: 0,
+        place: PLACE,
+        near,
+        distances: Distances {
+            first: 0,
+            second: 0,
+        },
+        motion: None,
+        first: None,
+        second: None,
+    }
 }
 
 impl Choice {
@@ -163,15 +195,7 @@ impl Choice {
     /// Decides the block once.
     #[inline(never)]
     fn decide(&mut self) {
-        let task = Task {
-            effort: self.effort,
-            qp: self.qp,
-            input: &self.input,
-            kind: SliceKind::I,
-            references: 0,
-            place: PLACE,
-            near: &self.near,
-        };
+        let task = last_task(self.effort, self.qp, &self.input, &self.near);
         decide_ctb(&task, &mut self.room, &mut self.block);
     }
 

@@ -1,6 +1,7 @@
 use Rattle.std.proofs.Common.{ap, ◌∙◌, arith}
 use Rattle.hv_block.specs.Plans.{with_leaf}
 use Rattle.hv_plan.specs.declared.prediction.Pred.TheVariants.{Intra}
+use Rattle.hv_mode.specs.Vectors.{references_of}
 use Rattle.hv_mode.proofs.CopyLemmas.{node_fits, squares_of_size}
 use Rattle.hv_mode.proofs.BlankLemmas.{blank_known, blank_decides}
 use Rattle.hv_mode.proofs.blank.decide_blank.Goals as goal
@@ -19,6 +20,7 @@ rebuild_leaf-requires-clause-known c =
     c.clear_levels.ensures.whole
     (c.set_leaf.ensures ∙ ap (λ p. with_leaf p c.args.size c.args.address (Intra 1))
     c.clear_levels.ensures.value)
+    (references_of c.args.task.now)
 
 pub returns : goal.returns
 returns c =

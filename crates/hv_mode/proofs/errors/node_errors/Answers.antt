@@ -1,5 +1,6 @@
 use Rattle.std.proofs.Common.{ap, ap₂, ◌+◌, ◌∙◌}
 use Rattle.hv_mode.specs.NodeErrors.{errors_by_rows}
+use Rattle.hv_mode.specs.Vectors.{references_of}
 use Rattle.hv_mode.proofs.SeenErrorLemmas.{node_errors_seen}
 use Rattle.hv_mode.proofs.errors.node_errors.Goals as goal
 use Rattle.hv_recon.proofs.NodeLemmas.{node_of_block}
@@ -18,6 +19,7 @@ returns-clause-value c = λ d seen.
     (c.from-3.ensures ∙ c.square_errors-3.ensures ∙
     ap (λ own. errors_by_rows 32 input.cr own chroma) c.cr.ensures.value)) ∙
     node_errors_seen c.args.task.now.place c.args.task.now.near.now c.args.samples.now input d
-    c.args.size c.args.address (node_of_block c.args.size c.args.address c.requires.node)
+    (references_of c.args.task.now) c.args.size c.args.address
+    (node_of_block c.args.size c.args.address c.requires.node)
     (record { across = c.requires.right; down = c.requires.bottom }) seen luma chroma
     c.node_squares.ensures.luma c.node_squares.ensures.chroma

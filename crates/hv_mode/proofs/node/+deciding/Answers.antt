@@ -1,14 +1,12 @@
 use Rattle.std.proofs.Common.{ℕ, sym, ◌∙◌, arith}
 use Rattle.hv_block.specs.declared.block.Block.{Block}
 use Rattle.hv_mode.specs.declared.task.Task.{Task}
-use Rattle.hv_mode.specs.Nodes.{leaf_choice}
 use Rattle.hv_mode.specs.SplitNodes.{split_choice}
 use Rattle.hv_mode.proofs.BestLemmas.{begins_inside, fits_across, fits_down}
-use Rattle.hv_mode.proofs.DecidedLemmas.{outside_decides, forced_decides, blank_decides, least_decides, tried_decides}
+use Rattle.hv_mode.proofs.DecidedLemmas.{outside_decides, forced_decides, blank_decides, tried_decides}
 use Rattle.hv_mode.proofs.SplitLemmas.{split_decides, parts_of}
-use Rattle.hv_mode.proofs.TriedLemmas.{unit_as_chosen, split_as_chosen, costs_choice, split_wins, unit_wins}
-use Rattle.hv_mode.proofs.FrameLemmas.{restored, decides_since}
-use Rattle.hv_mode.proofs.NodeFrameLemmas.{decides_kept}
+use Rattle.hv_mode.proofs.FrameLemmas.{decides_since}
+use Rattle.hv_mode.proofs.WonLemmas.{units_win, split_wins, split_loses}
 use Rattle.hv_mode.proofs.node.+deciding.Goals as goal
 
 -- ---- a node
@@ -49,15 +47,10 @@ decide_inside-returns-then-task-eq0 t c =
     blank_decides c.args.task.now c.args.size c.args.address c.args.out.now c.decide_blank.new.out
     c.requires.right c.requires.bottom c.if-task-eq0.true c.decide_blank.ensures
 
-pub decide_inside-returns-then-size-eq0 : goal.decide_inside-returns-then-size-eq0
-decide_inside-returns-then-size-eq0 t c =
-    least_decides c.args.task.now c.args.size c.args.address c.args.out.now c.decide_leaf.new.out
-    c.requires.right c.requires.bottom (omega arith) c.if-size-eq0.true c.decide_leaf.ensures
-
 pub decide_inside-returns : goal.decide_inside-returns
 decide_inside-returns t c =
     tried_decides c.args.task.now c.args.size c.args.address c.args.out.now c.decide_tried.new.out
-    c.requires.right c.requires.bottom (omega arith) (omega arith) c.decide_tried.ensures
+    c.requires.right c.requires.bottom (omega arith) c.decide_tried.ensures
 
 -- ---- a node that is split
 
@@ -93,46 +86,42 @@ decide_split-returns t c =
 pub decide_tried-decide_split-requires : goal.decide_tried-decide_split-requires
 decide_tried-decide_split-requires t c =
     let inside = begins_inside c.args.task.now.place c.args.size c.args.address c.requires.right
-    c.requires.bottom in (omega arith, (c.requires.node, (inside, (omega arith, c.requires.parts))))
+    c.requires.bottom in (omega arith, (c.requires.node, (inside, (omega arith, omega arith))))
 
-pub decide_tried-returns-then-split_cost-unit_cost :
-    goal.decide_tried-returns-then-split_cost-unit_cost
-decide_tried-returns-then-split_cost-unit_cost t c =
+-- one unit, of the least size
+pub decide_tried-returns-then-size-eq0 : goal.decide_tried-returns-then-size-eq0
+decide_tried-returns-then-size-eq0 t c =
+    units_win c.args.task.now c.args.size c.args.address c.args.out.now
+    c.try_units-least.new.waiting c.try_units-least.new.out c.copy_node.new.to
+    c.try_units-least.result c.requires.node c.try_units-least.ensures.waits
+    c.if-size-eq0.true c.try_units-least.ensures.kept c.copy_node.ensures
+
+-- the split, which costs less
+pub decide_tried-returns-then-split_cost-least : goal.decide_tried-returns-then-split_cost-least
+decide_tried-returns-then-split_cost-least t c =
     let task : Task = c.args.task.now in
     let size : ℕ = c.args.size in
     let address : ℕ = c.args.address in
     let old : Block = c.args.out.now in
-    let of_unit = costs_choice task size address (leaf_choice task size address) old
-    c.decide_leaf.new.out c.cost_node-unit_cost.result (unit_as_chosen task size address)
-    c.decide_leaf.ensures c.cost_node-unit_cost.ensures in
-    let split = decides_since task size address (split_choice task size address) old
-    c.decide_leaf.new.out c.decide_split.new.out c.decide_leaf.ensures.kept
-    c.decide_split.ensures in
-    let of_split = costs_choice task size address (split_choice task size address) old
-    c.decide_split.new.out c.cost_node-split_cost.result
-    (split_as_chosen task size address c.requires.parts) split c.cost_node-split_cost.ensures in
-    split_wins task size address old c.decide_split.new.out c.cost_node-unit_cost.result
-    c.cost_node-split_cost.result of_unit of_split c.if-split_cost-unit_cost.true split
+    split_wins task size address old c.try_units-least.new.waiting c.decide_split.new.out
+    c.try_units-least.result c.cost_node-split_cost.result (omega arith)
+    c.try_units-least.ensures.waits
+    (decides_since task size address (split_choice task size address) old
+    c.try_units-least.new.out c.decide_split.new.out c.try_units-least.ensures.kept
+    c.decide_split.ensures)
+    c.cost_node-split_cost.ensures c.if-split_cost-least.true
 
+-- or the unit that waits
 pub decide_tried-returns : goal.decide_tried-returns
 decide_tried-returns t c =
     let task : Task = c.args.task.now in
     let size : ℕ = c.args.size in
     let address : ℕ = c.args.address in
     let old : Block = c.args.out.now in
-    let of_unit = costs_choice task size address (leaf_choice task size address) old
-    c.decide_leaf.new.out c.cost_node-unit_cost.result (unit_as_chosen task size address)
-    c.decide_leaf.ensures c.cost_node-unit_cost.ensures in
-    let split = decides_since task size address (split_choice task size address) old
-    c.decide_leaf.new.out c.decide_split.new.out c.decide_leaf.ensures.kept
-    c.decide_split.ensures in
-    let of_split = costs_choice task size address (split_choice task size address) old
-    c.decide_split.new.out c.cost_node-split_cost.result
-    (split_as_chosen task size address c.requires.parts) split c.cost_node-split_cost.ensures in
-    let back = restored size address c.decide_leaf.new.out _ c.copy_node.new.to
-    c.decide_split.new.out c.copy_node-2.new.to c.copy_node.ensures c.decide_split.ensures.kept
-    c.copy_node-2.ensures in
-    unit_wins task size address old c.copy_node-2.new.to c.cost_node-unit_cost.result
-    c.cost_node-split_cost.result of_unit of_split (omega arith)
-    (decides_kept task size address (leaf_choice task size address) old c.decide_leaf.new.out
-    c.copy_node-2.new.to c.requires.node c.decide_leaf.ensures back)
+    split_loses task size address old c.try_units-least.new.waiting c.decide_split.new.out
+    c.copy_node-2.new.to c.try_units-least.result c.cost_node-split_cost.result (omega arith)
+    c.requires.node c.try_units-least.ensures.waits
+    (decides_since task size address (split_choice task size address) old
+    c.try_units-least.new.out c.decide_split.new.out c.try_units-least.ensures.kept
+    c.decide_split.ensures)
+    c.cost_node-split_cost.ensures (omega arith) c.copy_node-2.ensures

@@ -3,6 +3,7 @@ use Rattle.std.proofs.Common.{refl, subst}
 use Rattle.hv_block.specs.declared.edges.Neighbours.{Neighbours}
 use Rattle.hv_tree_model.specs.Sites.{site}
 use Rattle.hv_mode.specs.Pictures.{task_of, IsChosen}
+use Rattle.hv_mode.specs.Vectors.{references_for}
 use Rattle.hv_mode.proofs.PictureLemmas.{is_chosen}
 use Rattle.hv_mode.proofs.picture.decide_block.Goals as goal
 
@@ -13,8 +14,9 @@ returns c =
       block,
       refl,
       subst
-          (λ (near : Neighbours). IsChosen (task_of t) (site t.width t.height c.args.index) near block)
+          (λ (near : Neighbours). IsChosen (task_of t) (references_for t)
+          (site t.width t.height c.args.index) near block)
           c.neighbours_of-near.ensures
           (is_chosen _ _ block c.decide_ctb.ensures.decides c.decide_ctb.ensures.names
-          c.is_whole.ensures.plan c.is_whole.ensures.samples),
+          c.decide_ctb.ensures.moving_names c.is_whole.ensures.plan c.is_whole.ensures.samples),
     )

@@ -4,19 +4,22 @@ use Rattle.std.proofs.Common.{◌≡◌, ◌⊎◌, ℕ, zero, suc, ◌+◌, ◌
 use Rattle.std.specs.Prelude.{Option, Some, Bool, nat_eq, Result, Err}
 use Rattle.std.proofs.Math.Seq.{take-length}
 use Rattle.std.proofs.lemmas.List.{take-take}
+use Rattle.hv_lemmas.proofs.OptionLemmas.{some_same}
 use Rattle.hv_types.specs.declared.settings.Settings.{Settings}
+use Rattle.hv_types.specs.declared.settings.Emit.{Emit}
 use Rattle.hv_types.specs.declared.picture.Picture.{Picture}
-use Rattle.hv_types.specs.Configuration.{most_pictures, picture_bytes}
+use Rattle.hv_types.specs.Configuration.{IsValid, most_pictures, picture_bytes}
 use Rattle.hv_types.specs.Outside.{Rises}
 use Rattle.hv_types.proofs.ConfigurationLemmas.{picture_bytes-least}
-use Rattle.hv_model.specs.Built.{IsBuilt}
-use Rattle.hv_model.specs.IntraPictures.{output}
+use Rattle.hv_model.specs.Decoding.{decode_of}
+use Rattle.hv_model.specs.InterLaws.{InterStreamsAreDecoded}
+use Rattle.hv_model.specs.InterPictures.{output, output_as}
 use Rattle.hv_serial.specs.declared.answers.Totals.{Totals}
 use Rattle.hv_serial.specs.declared.answers.EncodeError.{EncodeError}
 use Rattle.hv_serial.specs.declared.answers.EncodeError.TheVariants.{ReadFault, ShortPicture, WriteFault, NoMemory, TooLong}
 use Rattle.hv_serial.specs.Transfers.{Drawn, Put, Grows, PutsPart}
 use Rattle.hv_serial.specs.Outcomes.{pictures_in, pictures_read, rest_in, whole_groups, IsReadToEnd, WroteGroups, WroteSome, WrotePart}
-use Rattle.hv_serial.specs.Endings.{Ends, EndsOk, EndsReadFault, EndsShort, EndsTooLong, NoFaults, EndsWriteFault, EndsNoMemory}
+use Rattle.hv_serial.specs.Endings.{Decodes, Ends, EndsOk, EndsReadFault, EndsShort, EndsTooLong, NoFaults, EndsWriteFault, EndsNoMemory}
 use Rattle.hv_serial.specs.Steps.{Took, GroupRead, GroupFault, GroupShort, GroupTooMany, EndsGroup, PutsPartOfGroup, EndsWriting}
 use Rattle.hv_serial.proofs.GrowthLemmas.{PutsPart-more}
 use Rattle.hv_serial.proofs.StreamLemmas.{output_nothing}
@@ -69,14 +72,24 @@ end_fault cfg t d old mid new before now last h same rises = record {
       (whole_part cfg bytes d.now old mid new (h.read bytes e) (h.wrote bytes e) same);
 }
 
+-- ---- a stream behind nothing else decodes
+
+pub ok_decodes : InterStreamsAreDecoded → (cfg : Settings) → IsValid cfg → (t : Totals) (d : Drawn)
+    (w : Put) → EndsOk cfg t d w → Decodes cfg d w
+ok_decodes law cfg b t d w h bytes stream emit told none new =
+    let v : List Picture = pictures_in cfg bytes in
+    let same : output cfg v ≡ stream = some_same (output cfg v) stream
+    (sym (h.wrote bytes told [] none) ∙ new) in
+    ap decode_of (sym same ∙ ap (λ (e : Emit). output_as e cfg v) emit) ∙ law cfg v b
+
 -- ---- before the first picture
 
-pub start_no_memory : (cfg : Settings) → IsBuilt cfg → (d : Drawn) (w : Put) → w.new ≡ w.old →
+pub start_no_memory : (cfg : Settings) → IsValid cfg → (d : Drawn) (w : Put) → w.new ≡ w.old →
     NoFaults d w → EndsNoMemory cfg d w
 start_no_memory cfg b d w same no_faults =
     let g : ℕ = cfg.group in
     let none : whole_groups cfg 0 ≡ 0 =
-    ap (whole_groups cfg) (sym (zero-mul g)) ∙ whole_same cfg 0 b.valid.group_least ∙ zero-mul g in
+    ap (whole_groups cfg) (sym (zero-mul g)) ∙ whole_same cfg 0 b.group_least ∙ zero-mul g in
     record {
       wrote = λ bytes left e f. record {
         m = 0;
@@ -101,7 +114,7 @@ fewer_or_full zero (suc g) few = inl (omega arith)
 fewer_or_full (suc m) zero few = absurd (omega (arith, few))
 fewer_or_full (suc m) (suc g) few = next_or m g (fewer_or_full m g (omega (arith, few)))
 
-module _ (cfg : Settings) (b : IsBuilt cfg) (before mid now old midw : Option (List ℕ))
+module _ (cfg : Settings) (b : IsValid cfg) (before mid now old midw : Option (List ℕ))
     (rb rm rn wb wm : ℕ) (t : Totals)
     (a : IsAt cfg (reading before mid rb rm) (writing old midw wb wm) t) where
   abbrev p : ℕ
@@ -224,7 +237,7 @@ module _ (cfg : Settings) (b : IsBuilt cfg) (before mid now old midw : Option (L
               subst (λ (j : ℕ). now ≡ Some (drop (j * p + 1) bytes)) r.number (took bytes e).left;
         };
         wrote = λ bytes left e f.
-            groups_written r.count 1 r.room (omega (arith, picture_bytes-least cfg b.valid)) bytes
+            groups_written r.count 1 r.room (omega (arith, picture_bytes-least cfg b)) bytes
             left e f (took bytes e);
         no_faults = read_well r.no_fault;
       }
@@ -237,7 +250,7 @@ module _ (cfg : Settings) (b : IsBuilt cfg) (before mid now old midw : Option (L
       let number : length v ≡ k + count =
       number_read cfg bytes left now (k + count) 0 took (some_bytes cfg b) f in
       let whole : whole_groups cfg k ≡ k =
-      ap (whole_groups cfg) a.whole ∙ whole_same cfg t.groups b.valid.group_least ∙ sym a.whole in
+      ap (whole_groups cfg) a.whole ∙ whole_same cfg t.groups b.group_least ∙ sym a.whole in
       record {
         m = k;
         groups = record { few = omega (arith, number); whole = inl (sym whole) };
@@ -285,7 +298,7 @@ module _ (cfg : Settings) (b : IsBuilt cfg) (before mid now old midw : Option (L
       let next : k + m ≡ (t.groups + 1) * cfg.group =
       omega (arith, a.whole, full, next_place t.groups cfg.group) in
       inl (
-      next ∙ sym (whole_same cfg (t.groups + 1) b.valid.group_least) ∙
+      next ∙ sym (whole_same cfg (t.groups + 1) b.group_least) ∙
       sym (ap (whole_groups cfg) next)
       )
   are_groups padded r bytes left e f (inl fewer) =

@@ -10,7 +10,11 @@ mod OutputLemmas
 mod GreyLemmas
 mod BlankGroupLemmas
 mod CropLemmas
-mod IntraGroupLemmas
-mod IntraPictureLemmas
-mod PaddedGroupLemmas
+mod PaddedPictureLemmas
+mod SlotLemmas
+mod FrameLemmas
+mod DistanceLemmas
+mod GivenPictureLemmas
+mod GroupPictureLemmas
+mod CodedBlockLemmas
 pub mod EndLemmas

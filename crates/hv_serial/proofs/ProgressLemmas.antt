@@ -5,11 +5,10 @@ use Rattle.std.proofs.lemmas.List.{length-take-le, take_all}
 use Rattle.std.proofs.lemmas.Nat.{mul-le}
 use Rattle.hv_types.specs.declared.settings.Settings.{Settings}
 use Rattle.hv_types.specs.declared.picture.Picture.{Picture}
-use Rattle.hv_types.specs.Configuration.{most_pictures, picture_bytes}
+use Rattle.hv_types.specs.Configuration.{IsValid, most_pictures, picture_bytes}
 use Rattle.hv_types.specs.Video.{pad}
 use Rattle.hv_types.proofs.ConfigurationLemmas.{picture_bytes-least}
-use Rattle.hv_model.specs.Built.{IsBuilt}
-use Rattle.hv_model.specs.IntraPictures.{output}
+use Rattle.hv_model.specs.InterPictures.{output}
 use Rattle.hv_model.specs.EncodingLaws.{IsNextGroup}
 use Rattle.hv_serial.specs.declared.answers.Totals.{Totals}
 use Rattle.hv_serial.specs.Transfers.{Drawn, Put, Grows}
@@ -53,8 +52,8 @@ pub record IsAt (cfg : Settings) (d : Drawn) (w : Put) (t : Totals) : Type 0 whe
   pub whole : t.pictures ≡ t.groups * cfg.group
   pub fits : t.bytes ≤ t.groups * 2 ^ 64
 
-pub some_bytes : (cfg : Settings) → IsBuilt cfg → 0 < picture_bytes cfg
-some_bytes cfg b = omega (arith, picture_bytes-least cfg b.valid)
+pub some_bytes : (cfg : Settings) → IsValid cfg → 0 < picture_bytes cfg
+some_bytes cfg b = omega (arith, picture_bytes-least cfg b)
 
 pub Grows-none : (old : Option (List ℕ)) → Grows old old []
 Grows-none old had e = e ∙ ap Some (sym (append-nil had))
@@ -86,7 +85,7 @@ at_start cfg now new r w t p g b =
       fits = omega (arith, b);
     }
 
-module _ (cfg : Settings) (b : IsBuilt cfg) where
+module _ (cfg : Settings) (b : IsValid cfg) where
   -- as many pictures are there as were taken
   pub are_there : (k : ℕ) (bytes : List ℕ) (now : Option (List ℕ)) →
       Took (k * picture_bytes cfg) bytes now → length (take k (pictures_in cfg bytes)) ≡ k
@@ -101,7 +100,7 @@ module _ (cfg : Settings) (b : IsBuilt cfg) where
         arith,
         a.whole,
         a.encoded.few,
-        mul-le t.groups 1 t.groups cfg.group (omega arith) b.valid.group_least,
+        mul-le t.groups 1 t.groups cfg.group (omega arith) b.group_least,
       )
 
   module _ (before mid now old midw : Option (List ℕ)) (rb rm rn wb wm : ℕ) (t : Totals)
@@ -315,10 +314,10 @@ module _ (cfg : Settings) (b : IsBuilt cfg) where
     at_none padded none r =
         ends_ok (reading before now rb rn) (writing old midw wb wm) t
         (after_none before mid now old midw rb rm rn wb wm t a padded none r)
-        (sym (ap (group_count cfg) a.whole ∙ groups_none cfg t.groups b.valid.group_least))
+        (sym (ap (group_count cfg) a.whole ∙ groups_none cfg t.groups b.group_least))
         (λ bytes e.
         all_taken before mid now old midw rb rm rn wb wm t a padded
-        (omega (arith, none, b.valid.group_least)) r bytes e ∙
+        (omega (arith, none, b.group_least)) r bytes e ∙
         ap (λ (k : ℕ). k * picture_bytes cfg) (omega (arith, none)))
 
     -- a last group with fewer pictures was left

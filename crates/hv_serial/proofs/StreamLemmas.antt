@@ -8,9 +8,9 @@ use Rattle.hv_types.specs.declared.settings.Emit.{Emit}
 use Rattle.hv_types.specs.declared.settings.Emit.TheVariants.{Stream, Recon}
 use Rattle.hv_types.specs.declared.picture.Picture.{Picture}
 use Rattle.hv_types.specs.Video.{raw}
-use Rattle.hv_model.specs.IntraPictures.{encode_group, group_bytes, encode_of, recon_of, output_as, output}
+use Rattle.hv_model.specs.InterPictures.{encode_group, group_bytes, encode_of, recon_of, output_as, output}
 use Rattle.hv_model.specs.EncodingLaws.{IsNextGroup}
-use Rattle.hv_model.proofs.IntraGroupLemmas.{intra_encoding_appends, intra_reconstruction_appends}
+use Rattle.hv_model.proofs.InterGroupLemmas.{inter_encoding_appends, inter_reconstruction_appends}
 use Rattle.hv_serial.specs.Steps.{sets_of, written_as, bytes_of_group}
 
 nothing_as : (emit : Emit) (cfg : Settings) → output_as emit cfg [] ≡ []
@@ -26,13 +26,13 @@ stream_more : (cfg : Settings) (groups : ℕ) (v group : List Picture) →
     IsNextGroup cfg groups v group →
     encode_of cfg (v ++ group) ≡
     encode_of cfg v ++ (sets_of cfg (nat_eq groups 0) ++ group_bytes cfg group)
-stream_more cfg zero [] group next = intra_encoding_appends cfg 0 [] group next
+stream_more cfg zero [] group next = inter_encoding_appends cfg 0 [] group next
 stream_more cfg (suc groups) [] group next =
     absurd (omega (arith, next.whole, next.some, next.few))
 stream_more cfg zero (first ∷ v) group next = absurd (omega (arith, next.whole))
 stream_more cfg (suc groups) (first ∷ v) group next =
     rw (eqb-suc-zero groups)
-    (intra_encoding_appends cfg (suc groups) (first ∷ v) group next ∙
+    (inter_encoding_appends cfg (suc groups) (first ∷ v) group next ∙
     ap (λ (x : List ℕ). x ++ group_bytes cfg group) (append-nil (encode_of cfg (first ∷ v))))
 
 written_more : (emit : Emit) (cfg : Settings) (groups : ℕ) (v group : List Picture) →
@@ -41,7 +41,7 @@ written_more : (emit : Emit) (cfg : Settings) (groups : ℕ) (v group : List Pic
     output_as emit cfg v ++ written_as emit cfg (nat_eq groups 0) (encode_group cfg group)
 written_more Stream cfg groups v group next = stream_more cfg groups v group next
 written_more Recon cfg groups v group next =
-    ap (flat_map raw) (intra_reconstruction_appends cfg groups v group next) ∙
+    ap (flat_map raw) (inter_reconstruction_appends cfg groups v group next) ∙
     flat_map-append raw (recon_of cfg v) (encode_group cfg group).shown
 
 -- what is written behind one group more

@@ -1,4 +1,4 @@
--- The units of a group in which nothing is chosen, one after another.
+-- The units of a group, one after another.
 use Rattle.std.proofs.Common.{◌≡◌, ℕ, suc, ◌+◌, ◌<◌, List, [], ◌∷◌, ◌++◌, length, take, map, slice_index_or, sym, ap, ◌∙◌, arith, append-nil, ◌≤◌}
 use Rattle.std.specs.Prelude.{flat_map}
 use Rattle.std.proofs.lemmas.List.{map-append, get_or-map, length-map, take_all}
@@ -6,7 +6,6 @@ use Rattle.std.proofs.lemmas.Grind.{flat_map-append}
 use Rattle.std.proofs.Math.Seq.{take-suc}
 use Rattle.hv_types.specs.declared.settings.Settings.{Settings}
 use Rattle.hv_group_model.specs.Structure.{Coded, coded, coding, picture_at}
-use Rattle.hv_serial.specs.BlankGroups.{blank_unit, blank_units_of}
 
 after_one : (n : ℕ) → n + 1 ≡ suc n
 after_one n = omega arith
@@ -29,26 +28,25 @@ units_more inside items units i unit seen below is =
     (append-nil (slice_index_or units i (items unit)) ∙ next)
 
 -- the units of the first pictures in coding order, and one more
-pub coded_more : (cfg : Settings) (n count levels at : ℕ) (unit : List ℕ) →
+pub coded_more : (cfg : Settings) (f : ℕ → List ℕ) (n count levels at : ℕ) (unit : List ℕ) →
     at < length (coding n cfg.levels) → count ≡ n → levels ≡ cfg.levels →
-    unit ≡ blank_unit cfg n (picture_at count levels at) →
-    map (λ c. blank_unit cfg n c.picture) (take at (coding n cfg.levels)) ++ unit ∷ [] ≡
-    map (λ c. blank_unit cfg n c.picture) (take (at + 1) (coding n cfg.levels))
-coded_more cfg n count levels at unit below same_count same_levels is =
+    unit ≡ f (picture_at count levels at) →
+    map (λ c. f c.picture) (take at (coding n cfg.levels)) ++ unit ∷ [] ≡
+    map (λ c. f c.picture) (take (at + 1) (coding n cfg.levels))
+coded_more cfg f n count levels at unit below same_count same_levels is =
     let order : List Coded = coding n cfg.levels in
     let d : Coded = coded 0 0 [] in
-    let f : Coded → List ℕ = λ c. blank_unit cfg n c.picture in
-    let next : unit ≡ f (slice_index_or order at d) =
-    is ∙ ap (λ m. blank_unit cfg n (picture_at m levels at)) same_count ∙
-    ap (λ m. blank_unit cfg n (picture_at n m at)) same_levels in
-    ap (λ u. map f (take at order) ++ u ∷ []) next ∙
-    sym (map-append f (take at order) (slice_index_or order at d ∷ [])) ∙
-    sym (ap (λ m. map f (take m order)) (after_one at) ∙ ap (map f) (take-suc order at d below))
+    let g : Coded → List ℕ = λ c. f c.picture in
+    let next : unit ≡ g (slice_index_or order at d) =
+    is ∙ ap (λ m. f (picture_at m levels at)) same_count ∙
+    ap (λ m. f (picture_at n m at)) same_levels in
+    ap (λ u. map g (take at order) ++ u ∷ []) next ∙
+    sym (map-append g (take at order) (slice_index_or order at d ∷ [])) ∙
+    sym (ap (λ m. map g (take m order)) (after_one at) ∙ ap (map g) (take-suc order at d below))
 
 -- all of them
-pub all_coded : (cfg : Settings) (n at : ℕ) (units : List (List ℕ)) →
-    units ≡ map (λ c. blank_unit cfg n c.picture) (take at (coding n cfg.levels)) →
-    length (coding n cfg.levels) ≤ at → units ≡ blank_units_of cfg n
-all_coded cfg n at units is all =
-    is ∙
-    ap (map (λ (c : Coded). blank_unit cfg n c.picture)) (take_all at (coding n cfg.levels) all)
+pub all_coded : (cfg : Settings) (f : ℕ → List ℕ) (n at : ℕ) (units : List (List ℕ)) →
+    units ≡ map (λ c. f c.picture) (take at (coding n cfg.levels)) →
+    length (coding n cfg.levels) ≤ at → units ≡ map (λ c. f c.picture) (coding n cfg.levels)
+all_coded cfg f n at units is all =
+    is ∙ ap (map (λ (c : Coded). f c.picture)) (take_all at (coding n cfg.levels) all)

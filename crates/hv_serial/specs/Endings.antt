@@ -1,9 +1,11 @@
 -- How the encoding of a video ends.
-use Rattle.std.specs.Prelude.{◌≡◌, ℕ, List, length, Some, Result, Ok, Err}
+use Rattle.std.specs.Prelude.{◌≡◌, ℕ, List, [], length, Some, Result, Ok, Err}
 use Rattle.hv_types.specs.declared.settings.Settings.{Settings}
+use Rattle.hv_types.specs.declared.settings.Emit.TheVariants.{Stream}
 use Rattle.hv_types.specs.Outside.{Rises}
 use Rattle.hv_types.specs.declared.picture.Picture.{Picture}
-use Rattle.hv_model.specs.IntraPictures.{output}
+use Rattle.hv_model.specs.Decoding.{decode_of}
+use Rattle.hv_model.specs.InterPictures.{recon_of, output}
 use Rattle.hv_serial.specs.declared.answers.Totals.{Totals}
 use Rattle.hv_serial.specs.declared.answers.EncodeError.{EncodeError}
 use Rattle.hv_serial.specs.declared.answers.EncodeError.TheVariants.{ReadFault, ShortPicture, WriteFault, NoMemory, TooLong}
@@ -67,3 +69,9 @@ Ends cfg d w (Err (ShortPicture have)) = EndsShort cfg have d w
 Ends cfg d w (Err WriteFault) = EndsWriteFault cfg d w
 Ends cfg d w (Err NoMemory) = EndsNoMemory cfg d w
 Ends cfg d w (Err TooLong) = EndsTooLong cfg d w
+
+-- where a sink that had nothing has a stream then, it decodes to the reconstructed pictures
+abbrev pub Decodes : Settings → Drawn → Put → Type 0
+Decodes cfg d w =
+    (bytes stream : List ℕ) → cfg.emit ≡ Stream → d.before ≡ Some bytes → w.old ≡ Some [] →
+    w.new ≡ Some stream → decode_of stream ≡ Some (recon_of cfg (pictures_in cfg bytes))

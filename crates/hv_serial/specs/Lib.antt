@@ -3,5 +3,9 @@ pub mod Outcomes
 pub mod Endings
 pub mod Steps
 pub mod BlankGroups
-pub mod ChosenPictures
+pub mod Slots
 pub mod Workspaces
+pub mod CodedBlocks
+pub mod GroupPictures
+pub mod GivenPictures
+pub mod ShownPictures

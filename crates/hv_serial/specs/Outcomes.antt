@@ -6,7 +6,7 @@ use Rattle.hv_types.specs.declared.settings.Settings.{Settings}
 use Rattle.hv_types.specs.declared.picture.Picture.{Picture}
 use Rattle.hv_types.specs.Configuration.{most_pictures, picture_bytes}
 use Rattle.hv_types.specs.Video.{pictures, rest}
-use Rattle.hv_model.specs.IntraPictures.{output}
+use Rattle.hv_model.specs.InterPictures.{output}
 use Rattle.hv_serial.specs.Transfers.{Grows, PutsPart}
 
 -- ---- what was read

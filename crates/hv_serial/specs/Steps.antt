@@ -12,7 +12,7 @@ use Rattle.hv_types.specs.Video.{raw, pad}
 use Rattle.hv_decision.specs.Groups.{GroupOutput}
 use Rattle.hv_stream_model.specs.Headers.{parameter_sets}
 use Rattle.hv_model.specs.Encoding.{EncodedGroup}
-use Rattle.hv_model.specs.IntraPictures.{encode_group}
+use Rattle.hv_model.specs.InterPictures.{encode_group}
 use Rattle.hv_serial.specs.declared.answers.EncodeError.{EncodeError}
 use Rattle.hv_serial.specs.declared.answers.EncodeError.TheVariants.{ReadFault, ShortPicture, WriteFault, NoMemory, TooLong}
 use Rattle.hv_serial.specs.Transfers.{Drawn, Put, Grows, PutsPart, FellShort}

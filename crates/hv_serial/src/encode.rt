@@ -1,31 +1,36 @@
 //! The encoding of a video, group by group.
 
-ghost use Rattle.std.specs.Prelude.{◌≡◌, ◌+◌, ◌<◌, ◌^◌};
-ghost use Rattle.hv_model.specs.Built.{IsBuilt};
+ghost use Rattle.std.specs.Prelude.{◌≡◌, ◌+◌, ◌<◌, ◌^◌, OnOk};
+ghost use Rattle.hv_types.specs.Configuration.{IsValid};
 ghost use Rattle.hv_serial.specs.Transfers.{drawn, put};
-ghost use Rattle.hv_serial.specs.Endings.{Ends};
+ghost use Rattle.hv_serial.specs.Endings.{Decodes, Ends};
 
 use crate::answers::{EncodeError, Totals};
 use crate::reading::read_group;
 use crate::workspace::Workspace;
 use crate::writing::write_group;
+use hv_model::inter_streams_are_decoded;
 use hv_types::{Config, Failed, Sink, Source};
 use std::alloc::Global;
 
 /// Encodes the video of the source: reads a group of pictures, of which the last may have fewer,
 /// and encodes and writes it before the next one is read, until the input ends. Where all were read
 /// and written, also where there is none, the sink is then asked once whether that came through: if
-/// it didn't, that is `WriteFault`.
+/// it didn't, that is `WriteFault`. A stream so written decodes (clauses 7 to 9 and Annex B) to the
+/// reconstructed pictures.
 pub fn encode_video<S: Source, K: Sink>(
     alloc: Global,
     config: &Config,
     source: &mut S,
     out: &mut K,
 ) -> Result<Totals, EncodeError>
-    requires built { IsBuilt config.now }
-    ensures { Ends config.now (drawn S.left S.faults source.old source.new)
+    requires valid { IsValid config.now }
+    ensures ends { Ends config.now (drawn S.left S.faults source.old source.new)
         (put K.written K.faults out.old out.new) result }
+    ensures decoded { OnOk result (Decodes config.now
+        (drawn S.left S.faults source.old source.new) (put K.written K.faults out.old out.new)) }
 {
+    inter_streams_are_decoded();
     let totals = encode_groups(alloc, config, source, out)?;
     match out.end() {
         Ok(()) => Ok(totals),
@@ -41,7 +46,7 @@ fn encode_groups<S: Source, K: Sink>(
     source: &mut S,
     out: &mut K,
 ) -> Result<Totals, EncodeError>
-    requires built { IsBuilt config.now }
+    requires valid { IsValid config.now }
     ensures { Ends config.now (drawn S.left S.faults source.old source.new)
         (put K.written K.faults out.old out.new) result }
 {

@@ -2,16 +2,16 @@
 
 ghost use Rattle.std.specs.Prelude.{◌≡◌, ◌++◌, [], length, replicate, IfOk, OnOk};
 ghost use Rattle.hv_types.specs.Configuration.{IsValid};
-ghost use Rattle.hv_model.specs.Built.{IsBuilt};
-ghost use Rattle.hv_serial.specs.Steps.{emitted};
+ghost use Rattle.hv_model.specs.InterPictures.{encode_group};
+ghost use Rattle.hv_serial.specs.Steps.{OfPadded, emitted};
+ghost use Rattle.hv_serial.specs.GroupPictures.{ArePadded};
 ghost use Rattle.hv_serial.specs.BlankGroups.{blank_units_of, grey_pictures};
-ghost use Rattle.hv_serial.specs.ChosenPictures.{units_of_group, shown_of_group};
 ghost use Rattle.hv_serial.specs.Workspaces.{IsWorkspace};
 
-use crate::intra::encode_intra_group;
+use crate::pictures::encode_chosen_group;
 use crate::workspace::Workspace;
 use hv_decision::{Group, GroupOutput};
-use hv_model::nothing_is_chosen_at_effort_zero;
+use hv_model::groups_are_blank_at_effort_zero;
 use hv_packet::picture_unit;
 use hv_types::{Emit, NoMemory};
 use std::alloc::Global;
@@ -20,26 +20,40 @@ use std::alloc::Global;
 const GREY: u8 = 128;
 
 /// The output of a group, in a workspace for its settings: its units in coding order and, where
-/// reconstructed pictures are emitted, these in output order. At effort 0 nothing is chosen; at
-/// other efforts groups have one picture. The only error is want of memory.
+/// reconstructed pictures are emitted, these in output order. At effort 0 nothing is chosen. The
+/// only error is want of memory.
 pub fn encode_group_serial(
     alloc: Global,
     group: &Group,
     work: &mut Workspace,
 ) -> Result<GroupOutput, NoMemory>
-    requires built { IsBuilt group.now.input.config }
+    requires valid { IsValid group.now.input.config }
     requires work { IsWorkspace group.now.input.config work.old }
-    ensures slices { IfOk result (λ output. output.slices ≡ units_of_group group.now.input) }
-    ensures shown { IfOk result (λ output. output.shown ≡
-        emitted group.now.input.config.emit (shown_of_group group.now.input)) }
+    ensures slices { IfOk result (λ output. OfPadded group.now.input.pictures (λ pictures.
+        output.slices ≡ (encode_group group.now.input.config pictures).units)) }
+    ensures shown { IfOk result (λ output. OfPadded group.now.input.pictures (λ pictures.
+        output.shown ≡ emitted group.now.input.config.emit
+        (encode_group group.now.input.config pictures).shown)) }
     ensures work { IsWorkspace group.now.input.config work.new }
 {
     match work {
         Workspace::Blank => {
-            nothing_is_chosen_at_effort_zero();
+            groups_are_blank_at_effort_zero();
             encode_blank_group(alloc, group)
         }
-        Workspace::Chosen(space) => encode_intra_group(alloc, group, space),
+        Workspace::Chosen(space) => {
+            pictures_are_padded(group);
+            encode_chosen_group(alloc, group, space)
+        }
+    }
+}
+
+/// Padding keeps the pictures of a group as they are.
+fn pictures_are_padded(group: &Group)
+    ensures { ArePadded group.now.input }
+{
+    for picture in 0..group.input.count() {
+        group.input.picture(picture);
     }
 }
 

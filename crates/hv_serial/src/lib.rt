@@ -3,12 +3,15 @@
 
 mod answers;
 mod chosen;
+mod coded;
 mod encode;
+mod given;
 mod group;
-mod intra;
 mod parameters;
+mod pictures;
 mod reading;
 mod shown;
+mod slots;
 #[cfg(test)]
 mod tests;
 mod transfer;
@@ -18,5 +21,6 @@ mod writing;
 pub use answers::{EncodeError, Totals};
 pub use encode::encode_video;
 pub use group::encode_group_serial;
+pub use slots::frames_serve;
 pub use transfer::write_all;
-pub use workspace::{PictureSpace, Workspace};
+pub use workspace::{GroupSpace, Workspace};

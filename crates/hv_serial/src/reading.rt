@@ -1,8 +1,7 @@
 //! The reading of a group of pictures.
 
 ghost use Rattle.std.specs.Prelude.{◌≡◌, ◌≤◌, ℕ, List, length};
-ghost use Rattle.hv_types.specs.Configuration.{most_pictures, picture_bytes};
-ghost use Rattle.hv_model.specs.Built.{IsBuilt};
+ghost use Rattle.hv_types.specs.Configuration.{IsValid, most_pictures, picture_bytes};
 ghost use Rattle.hv_serial.specs.Transfers.{drawn};
 ghost use Rattle.hv_serial.specs.Steps.{EndsGroup, EndsPicture};
 
@@ -21,7 +20,7 @@ pub(crate) fn read_group<S: Source>(
     raw: &mut [u8],
     source: &mut S,
 ) -> Result<GroupInput, EncodeError>
-    requires built { IsBuilt config.now }
+    requires valid { IsValid config.now }
     requires before { before ≤ most_pictures }
     requires room { length raw.old ≡ picture_bytes config.now }
     ensures { EndsGroup config.now before (drawn S.left S.faults source.old source.new) result }
@@ -51,7 +50,7 @@ fn read_picture<S: Source>(
     raw: &mut [u8],
     source: &mut S,
 ) -> Result<bool, EncodeError>
-    requires built { IsBuilt config.now }
+    requires valid { IsValid config.now }
     requires number { number ≤ most_pictures }
     requires room { length raw.old ≡ picture_bytes config.now }
     ensures { EndsPicture config.now number raw.new (drawn S.left S.faults source.old source.new)
@@ -70,7 +69,7 @@ fn read_picture<S: Source>(
 
 /// Asks for one byte behind the last picture that a video may have.
 fn read_end<S: Source>(config: &Config, source: &mut S) -> Result<bool, EncodeError>
-    requires built { IsBuilt config.now }
+    requires valid { IsValid config.now }
     ensures { (raw : List ℕ) → EndsPicture config.now most_pictures raw
         (drawn S.left S.faults source.old source.new) result }
 {

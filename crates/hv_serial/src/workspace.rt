@@ -1,22 +1,21 @@
 //! What the encoding of groups works in.
 
 ghost use Rattle.std.specs.Prelude.{◌≡◌, ◌*◌, length, IfOk};
-ghost use Rattle.hv_types.specs.Configuration.{columns, rows};
-ghost use Rattle.hv_model.specs.Built.{IsBuilt};
-ghost use Rattle.hv_serial.specs.Workspaces.{IsSpace, IsWorkspace};
+ghost use Rattle.hv_types.specs.Configuration.{IsValid, columns, rows};
+ghost use Rattle.hv_serial.specs.Workspaces.{AreFrames, IsSpace, IsWorkspace};
 
 use hv_block::{Block, Frame};
 use hv_mode::Room;
 use hv_types::{Config, NoMemory};
 use std::alloc::Global;
 
-/// What the coding of a picture works in: room for the choice of a coding tree block, the blocks of
-/// the picture, and what stands of it when it is filtered.
+/// What the coding of the pictures of a group works in: room for the choice of a coding tree block,
+/// the blocks of a picture, and frames for the pictures to which later ones refer.
 #[derive(Drop)]
-pub struct PictureSpace {
+pub struct GroupSpace {
     pub room: Room,
     pub blocks: Vec<Block>,
-    pub frame: Frame,
+    pub frames: Vec<Frame>,
 }
 
 /// What the encoding of groups works in. It is made once a run, for its settings, and what stands
@@ -26,34 +25,35 @@ pub enum Workspace {
     /// Where nothing is chosen: it has no memory.
     Blank,
     /// Where coding tree blocks are chosen.
-    Chosen(PictureSpace),
+    Chosen(GroupSpace),
 }
 
 impl Workspace {
     /// For groups of these settings. The only error is want of memory.
     pub fn new(alloc: Global, config: &Config) -> Result<Self, NoMemory>
-        requires built { IsBuilt config.now }
+        requires valid { IsValid config.now }
         ensures { IfOk result (λ work. IsWorkspace config.now work) }
     {
         if config.settings().effort == 0 {
             Ok(Workspace::Blank)
         } else {
-            Ok(Workspace::Chosen(picture_space(alloc, config)?))
+            Ok(Workspace::Chosen(group_space(alloc, config)?))
         }
     }
 }
 
-/// For pictures of these settings.
-fn picture_space(alloc: Global, config: &Config) -> Result<PictureSpace, NoMemory>
+/// For groups of these settings.
+fn group_space(alloc: Global, config: &Config) -> Result<GroupSpace, NoMemory>
+    requires valid { IsValid config.now }
     ensures { IfOk result (λ space. IsSpace config.now space) }
 {
     let room = Room::new(alloc)?;
     let blocks = blocks_of_picture(alloc, config)?;
-    let frame = Frame::new(alloc, config)?;
-    Ok(PictureSpace {
+    let frames = frames_of_group(alloc, config)?;
+    Ok(GroupSpace {
         room,
         blocks,
-        frame,
+        frames,
     })
 }
 
@@ -68,4 +68,18 @@ fn blocks_of_picture(alloc: Global, config: &Config) -> Result<Vec<Block>, NoMem
         blocks.push(Block::new(alloc)?)?;
     }
     Ok(blocks)
+}
+
+/// As many frames as serve a group of these settings.
+fn frames_of_group(alloc: Global, config: &Config) -> Result<Vec<Frame>, NoMemory>
+    requires valid { IsValid config.now }
+    ensures { IfOk result (λ frames. AreFrames config.now frames.items) }
+{
+    let settings = config.settings();
+    let count = settings.group.min(settings.levels + 2);
+    let mut frames = Vec::with_capacity(alloc, usize::from(count))?;
+    for _index in 0..count {
+        frames.push(Frame::new(alloc, config)?)?;
+    }
+    Ok(frames)
 }

@@ -1,7 +1,7 @@
 //! The encoding and writing of a group of pictures.
 
 ghost use Rattle.std.specs.Prelude.{◌≡◌, ◌<◌, ◌++◌, length, flat_map, nat_eq, IfOk};
-ghost use Rattle.hv_model.specs.Built.{IsBuilt};
+ghost use Rattle.hv_types.specs.Configuration.{IsValid};
 ghost use Rattle.hv_serial.specs.Transfers.{put};
 ghost use Rattle.hv_serial.specs.Steps.{EndsWriting, OfPadded, bytes_of_group, joined_as, sets_of};
 ghost use Rattle.hv_serial.specs.Workspaces.{IsWorkspace};
@@ -24,7 +24,7 @@ pub(crate) fn write_group<K: Sink>(
     work: &mut Workspace,
     out: &mut K,
 ) -> Result<usize, EncodeError>
-    requires built { IsBuilt input.config }
+    requires valid { IsValid input.config }
     requires some { 0 < length input.pictures }
     requires work { IsWorkspace input.config work.old }
     ensures ends { EndsWriting input.config (nat_eq number 0) input.pictures
@@ -47,7 +47,7 @@ fn group_bytes(
     input: GroupInput,
     work: &mut Workspace,
 ) -> Result<Vec<u8>, NoMemory>
-    requires built { IsBuilt input.config }
+    requires valid { IsValid input.config }
     requires some { 0 < length input.pictures }
     requires work { IsWorkspace input.config work.old }
     ensures bytes { IfOk result (λ bytes. OfPadded input.pictures (λ pictures.

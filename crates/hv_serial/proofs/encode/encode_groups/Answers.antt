@@ -10,14 +10,14 @@ use Rattle.hv_serial.specs.Workspaces.{IsWorkspace}
 
 pub returns-in-Err : goal.returns-in-Err
 returns-in-Err g c =
-    at_read_error _ c.requires.built _ _ _ _ _ _ _ _ _ _ _ c.groups.invariant.0
+    at_read_error _ c.requires.valid _ _ _ _ _ _ _ _ _ _ _ c.groups.invariant.0
     c.in-Err.error (group_is _ _ _ _ (Err c.in-Err.error) c.in-Err.is c.read_group.ensures)
 
 pub returns-then-count-eq0 : goal.returns-then-count-eq0
 returns-then-count-eq0 g c =
     let read = group_is _ _ _ _ (Ok c.in-Ok-read_group.input) c.in-Ok-read_group.is
     c.read_group.ensures in
-    at_none _ c.requires.built _ _ _ _ _ _ _ _ _ _ _ c.groups.invariant.0 _
+    at_none _ c.requires.valid _ _ _ _ _ _ _ _ _ _ _ c.groups.invariant.0 _
     (omega (arith, c.if-count-eq0.true, c.count-count.ensures.value)) read.group
 
 pub write_group-requires-clause-work : goal.write_group-requires-clause-work
@@ -30,7 +30,7 @@ pub returns-in-Err-write_group : goal.returns-in-Err-write_group
 returns-in-Err-write_group g c =
     let read = group_is _ _ _ _ (Ok c.in-Ok-read_group.input) c.in-Ok-read_group.is
     c.read_group.ensures in
-    at_write_error _ c.requires.built _ _ _ _ _ _ _ _ _ _ _ c.groups.invariant.0
+    at_write_error _ c.requires.valid _ _ _ _ _ _ _ _ _ _ _ c.groups.invariant.0
     _ _ _ (omega (arith, c.if-count-eq0.false, c.count-count.ensures.value)) read.group
     c.in-Err-write_group.error
     (writing_is _ _ _ _ _ _ (Err c.in-Err-write_group.error) read.config c.in-Err-write_group.is
@@ -44,7 +44,7 @@ one_more-totals-requires-clause-pictures g c =
 
 pub one_more-totals-requires-clause-groups : goal.one_more-totals-requires-clause-groups
 one_more-totals-requires-clause-groups g c =
-    omega (arith, groups_few _ c.requires.built _ _ _ c.groups.invariant.0)
+    omega (arith, groups_few _ c.requires.valid _ _ _ c.groups.invariant.0)
 
 pub one_more-totals-requires-clause-bytes : goal.one_more-totals-requires-clause-bytes
 one_more-totals-requires-clause-bytes g c =
@@ -56,7 +56,7 @@ one_more-totals-requires-clause-bytes g c =
       arith,
       c.groups.invariant.0.fits,
       puts.fits,
-      groups_few _ c.requires.built _ _ _ c.groups.invariant.0,
+      groups_few _ c.requires.valid _ _ _ c.groups.invariant.0,
     )
 
 pub returns-then-count-settings : goal.returns-then-count-settings
@@ -65,7 +65,7 @@ returns-then-count-settings g c =
     c.read_group.ensures in
     let puts = writing_is _ _ _ _ _ _ (Ok c.in-Ok-write_group.bytes) read.config
     c.in-Ok-write_group.is c.write_group.ensures.ends in
-    at_last _ c.requires.built _ _ _ _ _ _ _ _ _ _ _ c.groups.invariant.0 _ _ _
+    at_last _ c.requires.valid _ _ _ _ _ _ _ _ _ _ _ c.groups.invariant.0 _ _ _
     c.in-Ok-write_group.bytes _
     (omega (arith, c.if-count-eq0.false, c.count-count.ensures.value))
     (omega (
@@ -85,7 +85,7 @@ groups-preserved g c =
     c.read_group.ensures in
     let puts = writing_is _ _ _ _ _ _ (Ok c.in-Ok-write_group.bytes) read.config
     c.in-Ok-write_group.is c.write_group.ensures.ends in (
-      at_next _ c.requires.built _ _ _ _ _ _ _ _ _ _ _ c.groups.invariant.0 _ _ _
+      at_next _ c.requires.valid _ _ _ _ _ _ _ _ _ _ _ c.groups.invariant.0 _ _ _
           c.in-Ok-write_group.bytes _
           (omega (arith, c.if-count-eq0.false, c.count-count.ensures.value))
           (omega (

@@ -17,7 +17,7 @@ loop-place-preserved c =
     c.requires.valid.levels in (
       ap (λ o. o.slices) c.in_ok-push_slice.ensures.ok ∙
           ap (λ units. units ++ c.in_ok-unit.unit.items ∷ []) c.loop-place.invariant.0 ∙
-          coded_more cfg n group.structure.count group.structure.levels c.loop-place.place
+          coded_more cfg (blank_unit cfg n) n group.structure.count group.structure.levels c.loop-place.place
           c.in_ok-unit.unit.items
           (omega (
             arith,
@@ -40,7 +40,7 @@ returns-clause-slices c =
     length-coding n cfg.levels (omega (arith, group.some))
     (omega (arith, group.count, c.count-place-end.ensures.value, c.count-place-end.ensures.most))
     c.requires.valid.levels in
-    all_coded cfg n c.loop-place.place c.loop-place.output.slices c.loop-place.invariant.0
+    all_coded cfg (blank_unit cfg n) n c.loop-place.place c.loop-place.output.slices c.loop-place.invariant.0
     (omega (
       arith,
       long,

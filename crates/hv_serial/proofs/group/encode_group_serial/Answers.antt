@@ -1,44 +1,71 @@
--- At effort 0 nothing is chosen.
-use Rattle.std.proofs.Common.{◌≡◌, length, subst, sym, ◌∙◌}
+-- At effort 0 nothing is chosen, and else padding keeps the pictures of the group.
+use Rattle.std.proofs.Common.{◌≡◌, length, subst, ap, ◌∙◌}
 use Rattle.std.proofs.lemmas.Result.{IfOk-weaker}
-use Rattle.hv_types.specs.declared.picture.Picture.{Picture}
-use Rattle.hv_stream_model.specs.Headers.{SliceHeader}
-use Rattle.hv_model.specs.IntraLaws.{IsBlank}
+use Rattle.hv_decision.specs.Groups.{GroupOutput}
+use Rattle.hv_model.specs.Encoding.{EncodedGroup}
+use Rattle.hv_model.specs.InterPictures.{encode_group}
+use Rattle.hv_serial.specs.BlankGroups.{blank_units_of, grey_pictures}
+use Rattle.hv_serial.specs.Steps.{OfPadded, emitted}
 use Rattle.hv_serial.specs.Workspaces.{IsWorkspace}
 use Rattle.hv_serial.proofs.BlankGroupLemmas.{units_are, shown_are}
+use Rattle.hv_serial.proofs.PaddedPictureLemmas.{group_same}
 use Rattle.hv_serial.proofs.group.encode_group_serial.Goals as goal
-use Rattle.hv_decision.specs.Groups.{GroupOutput}
-use Rattle.hv_serial.specs.BlankGroups.{blank_units_of, grey_pictures}
-use Rattle.hv_serial.specs.ChosenPictures.{units_of_group, shown_of_group}
-use Rattle.hv_serial.specs.Steps.{emitted}
 
 pub returns-in-Blank-clause-slices : goal.returns-in-Blank-clause-slices
 returns-in-Blank-clause-slices c =
-    let cfg = c.args.group.now.input.config in
-    let effort : cfg.effort ≡ 0 = subst (IsWorkspace cfg) c.in-Blank.is c.requires.work in
-    let blank : (header : SliceHeader) (input : Picture) → IsBlank cfg header input =
-    λ header input.
-    c.nothing_is_chosen_at_effort_zero.ensures cfg header input c.requires.built.valid effort in
+    let group = c.args.group.now.input in
+    let effort : group.config.effort ≡ 0 =
+    subst (IsWorkspace group.config) c.in-Blank.is c.requires.work in
     IfOk-weaker c.encode_blank_group.result
-    (λ (o : GroupOutput). o.slices ≡
-    blank_units_of c.args.group.now.input.config (length c.args.group.now.input.pictures))
-    (λ (o : GroupOutput). o.slices ≡ units_of_group c.args.group.now.input)
-    (λ output is. is ∙ sym (units_are c.args.group.now.input blank))
+    (λ (o : GroupOutput). o.slices ≡ blank_units_of group.config (length group.pictures))
+    (λ (o : GroupOutput). OfPadded group.pictures (λ pictures.
+    o.slices ≡ (encode_group group.config pictures).units))
+    (λ output is pictures are.
+    is ∙
+    units_are group.config pictures group.pictures are
+    (c.groups_are_blank_at_effort_zero.ensures group.config pictures c.requires.valid effort))
     c.encode_blank_group.ensures.slices
 
 pub returns-in-Blank-clause-shown : goal.returns-in-Blank-clause-shown
 returns-in-Blank-clause-shown c =
-    let cfg = c.args.group.now.input.config in
-    let effort : cfg.effort ≡ 0 = subst (IsWorkspace cfg) c.in-Blank.is c.requires.work in
-    let blank : (header : SliceHeader) (input : Picture) → IsBlank cfg header input =
-    λ header input.
-    c.nothing_is_chosen_at_effort_zero.ensures cfg header input c.requires.built.valid effort in
+    let group = c.args.group.now.input in
+    let effort : group.config.effort ≡ 0 =
+    subst (IsWorkspace group.config) c.in-Blank.is c.requires.work in
     IfOk-weaker c.encode_blank_group.result
     (λ (o : GroupOutput). o.shown ≡
-    grey_pictures c.args.group.now.input.config.emit c.args.group.now.input.config
-    (length c.args.group.now.input.pictures))
-    (λ (o : GroupOutput). o.shown ≡
-    emitted c.args.group.now.input.config.emit (shown_of_group c.args.group.now.input))
-    (λ output is.
-    is ∙ sym (shown_are c.args.group.now.input blank c.requires.built.valid cfg.emit))
+    grey_pictures group.config.emit group.config (length group.pictures))
+    (λ (o : GroupOutput). OfPadded group.pictures (λ pictures.
+    o.shown ≡ emitted group.config.emit (encode_group group.config pictures).shown))
+    (λ output is pictures are.
+    is ∙
+    shown_are group.config pictures group.pictures are
+    (c.groups_are_blank_at_effort_zero.ensures group.config pictures c.requires.valid effort)
+    c.requires.valid group.config.emit)
     c.encode_blank_group.ensures.shown
+
+pub returns-in-Chosen-clause-slices : goal.returns-in-Chosen-clause-slices
+returns-in-Chosen-clause-slices c =
+    let group = c.args.group.now.input in
+    IfOk-weaker c.encode_chosen_group.result
+    (λ (o : GroupOutput). o.slices ≡ (encode_group group.config group.pictures).units)
+    (λ (o : GroupOutput). OfPadded group.pictures (λ pictures.
+    o.slices ≡ (encode_group group.config pictures).units))
+    (λ output is pictures are.
+    is ∙
+    ap (λ (g : EncodedGroup). g.units)
+    (group_same group.config pictures group.pictures are c.pictures_are_padded.ensures))
+    c.encode_chosen_group.ensures.slices
+
+pub returns-in-Chosen-clause-shown : goal.returns-in-Chosen-clause-shown
+returns-in-Chosen-clause-shown c =
+    let group = c.args.group.now.input in
+    IfOk-weaker c.encode_chosen_group.result
+    (λ (o : GroupOutput). o.shown ≡
+    emitted group.config.emit (encode_group group.config group.pictures).shown)
+    (λ (o : GroupOutput). OfPadded group.pictures (λ pictures.
+    o.shown ≡ emitted group.config.emit (encode_group group.config pictures).shown))
+    (λ output is pictures are.
+    is ∙
+    ap (λ (g : EncodedGroup). emitted group.config.emit g.shown)
+    (group_same group.config pictures group.pictures are c.pictures_are_padded.ensures))
+    c.encode_chosen_group.ensures.shown

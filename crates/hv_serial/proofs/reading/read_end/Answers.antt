@@ -10,7 +10,7 @@ returns-in-Err g c raw =
     (omega (
       arith,
       c.fill.auto.buffer,
-      picture_bytes-least c.args.config.now c.requires.built.valid,
+      picture_bytes-least c.args.config.now c.requires.valid,
     ))
     c.in-Err.ensures.fault c.in-Err.ensures.err
 

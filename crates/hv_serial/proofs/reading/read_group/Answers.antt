@@ -30,7 +30,7 @@ returns-in_default-push g c =
 pub loop-count-preserved : goal.loop-count-preserved
 loop-count-preserved g c = (
   part_next _ _ c.loop-count.count _ _ _ _ _ _ _ c.loop-count.invariant.0
-      (some_bytes _ c.requires.built) _ _
+      (some_bytes _ c.requires.valid) _ _
       c.in-Ok-push.ensures.ok
       (picture_at _ _ _ _ _ _ (Ok true) (ap (λ n. c.args.before + n) c.from.ensures)
       (c.in-Ok-true.is ∙ ap Ok c.in-Ok-true.field-0-test) c.read_picture.ensures),

@@ -22,5 +22,5 @@ returns-in-Ok-eq0 g c =
     let room : length c.fill.new.buffer ≡ picture_bytes c.args.config.now =
     c.fill.auto.buffer ∙ c.requires.room in
     picture_none _ _ _ _ c.in-Ok-eq0.field-0-test
-    (omega (arith, room, picture_bytes-least c.args.config.now c.requires.built.valid))
+    (omega (arith, room, picture_bytes-least c.args.config.now c.requires.valid))
     c.in-Ok-eq0.ensures.read c.in-Ok-eq0.ensures.end c.in-Ok-eq0.ensures.no_fault

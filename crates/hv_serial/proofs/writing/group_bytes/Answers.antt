@@ -3,10 +3,9 @@ use Rattle.std.proofs.Common.{ap, ◌∙◌}
 use Rattle.std.specs.Prelude.{nat_eq}
 use Rattle.std.proofs.lemmas.Result.{IfOk-weaker}
 use Rattle.hv_types.specs.declared.settings.Settings.{Settings}
-use Rattle.hv_model.specs.IntraPictures.{encode_group}
-use Rattle.hv_serial.specs.Steps.{emitted, joined_as}
+use Rattle.hv_model.specs.InterPictures.{encode_group}
+use Rattle.hv_serial.specs.Steps.{joined_as}
 use Rattle.hv_serial.proofs.OutputLemmas.{output_is_written}
-use Rattle.hv_serial.proofs.PaddedGroupLemmas.{units_of_padded, shown_of_padded}
 use Rattle.hv_serial.proofs.writing.group_bytes.Goals as goal
 
 pub returns-clause-bytes : goal.returns-clause-bytes
@@ -18,7 +17,6 @@ returns-clause-bytes c =
     (λ bytes is pictures padded.
     is ∙ ap (λ (s : Settings). joined_as s.emit s first output) c.config-config.ensures ∙
     output_is_written cfg.emit cfg first output (encode_group cfg pictures)
-    (c.in_ok-output.ensures.slices ∙ units_of_padded c.args.input pictures padded)
-    (c.in_ok-output.ensures.shown ∙
-    ap (emitted cfg.emit) (shown_of_padded c.args.input pictures padded)))
+    (c.in_ok-output.ensures.slices pictures padded)
+    (c.in_ok-output.ensures.shown pictures padded))
     c.joined_output.ensures

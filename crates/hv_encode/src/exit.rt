@@ -3,7 +3,7 @@
 ghost use Rattle.std.specs.Prelude.{◌≡◌, ◌⊎◌, ℕ, List, Some, length, IsTrue};
 ghost use Rattle.hv_types.specs.declared.settings.Settings.{Settings as SettingsSeen};
 ghost use Rattle.hv_types.specs.Outside.{Rises};
-ghost use Rattle.hv_model.specs.IntraPictures.{output};
+ghost use Rattle.hv_model.specs.InterPictures.{output};
 ghost use Rattle.hv_words.specs.CommandLine.{AsksFor, IsRefused};
 ghost use Rattle.hv_serial.specs.Transfers.{Grows};
 ghost use Rattle.hv_serial.specs.Outcomes.{pictures_in};

@@ -8,11 +8,10 @@ use Rattle.hv_lemmas.proofs.ComparisonLemmas.{lt_below, lt_not_below, other_than
 use Rattle.hv_lemmas.proofs.OptionLemmas.{some_same}
 use Rattle.hv_types.specs.declared.settings.Settings.{Settings}
 use Rattle.hv_types.specs.declared.picture.Picture.{Picture}
-use Rattle.hv_types.specs.Configuration.{most_pictures, picture_bytes}
+use Rattle.hv_types.specs.Configuration.{IsValid, most_pictures, picture_bytes}
 use Rattle.hv_types.specs.Outside.{Rises}
 use Rattle.hv_types.proofs.ConfigurationLemmas.{picture_bytes-least}
 use Rattle.hv_lemmas.proofs.ListLemmas.{length-tabulate}
-use Rattle.hv_model.specs.Built.{IsBuilt}
 use Rattle.hv_serial.specs.declared.answers.Totals.{Totals}
 use Rattle.hv_serial.specs.declared.answers.EncodeError.{EncodeError}
 use Rattle.hv_serial.specs.declared.answers.EncodeError.TheVariants as error
@@ -21,7 +20,7 @@ use Rattle.hv_run.specs.declared.status.Status.TheVariants.{Ok, Words, ReadFault
 use Rattle.hv_words.specs.declared.refusal.WordsError.{WordsError}
 use Rattle.hv_words.specs.declared.refusal.WordsError.TheVariants as words
 use Rattle.hv_words.specs.Answers.{Answers, HasLine}
-use Rattle.hv_words.specs.CommandLine.{AsksFor, Refusal, no_command_line, faulty, not_built, refusal}
+use Rattle.hv_words.specs.CommandLine.{AsksFor, Refusal, no_command_line, faulty, refusal}
 use Rattle.hv_words.proofs.AcceptanceLemmas.{same_settings}
 use Rattle.hv_serial.specs.Transfers.{Drawn, Put, Grows, PutsPart}
 use Rattle.hv_serial.specs.Outcomes.{pictures_in, rest_in, group_count, WroteGroups, IsReadToEnd, EndsWithin, GoesOn}
@@ -62,7 +61,6 @@ concluded_error cfg d w r size e s of_picture is ends reports =
 pub refused_so : (why : Option Refusal) (error : WordsError) → Answers why error → is_want_of_memory error ≡ false → IsSome why
 refused_so why (words.Parse text) h e = subst (λ (o : Option Refusal). IsSome o) (sym h) refl
 refused_so why (words.Config error) h e = subst (λ (o : Option Refusal). IsSome o) (sym h) refl
-refused_so why words.NotBuilt h e = subst (λ (o : Option Refusal). IsSome o) (sym h) refl
 refused_so why words.NoMemory h e = cc
 
 -- accepted words are refused by none but want of memory
@@ -79,14 +77,12 @@ refusal_told r why found (words.Parse text) is h line e told =
       reports = told;
     })
 refusal_told r why found (words.Config error) is h line e told = subst (λ (w : Refusal). ReportsRefusal r w) (some_same (faulty error) why (sym h ∙ is)) told
-refusal_told r why found words.NotBuilt is h line e told = subst (λ (w : Refusal). ReportsRefusal r w) (some_same not_built why (sym h ∙ is)) told
 refusal_told r why found words.NoMemory is h line e told = cc
 
 -- the report tells of want of memory
 pub no_memory_told : (r : Put) (error : WordsError) (line : List ℕ) → is_want_of_memory error ≡ true → Some no_memory_line ≡ Some line → Reports r (words_line error) → Reports r line
 no_memory_told r (words.Parse text) line e is told = cc
 no_memory_told r (words.Config error) line e is told = cc
-no_memory_told r words.NotBuilt line e is told = cc
 no_memory_told r words.NoMemory line e is told = subst (λ (x : List ℕ). Reports r x) (some_same no_memory_line line is) told
 
 -- ---- what the statuses share
@@ -207,13 +203,13 @@ due_ok cfg bytes now h =
     sym (ap (λ (a : Bool). due a (nat_eq (z % p) 0) (z % p)) (lt_not_below (most_pictures * p) z (at_most p z most_pictures few none))
     ∙ ap (λ (a : Bool). due false a (z % p)) (eq_true (z % p) none))
 
-due_short : (cfg : Settings) → IsBuilt cfg → (have : ℕ) (bytes : List ℕ) (now : Option (List ℕ)) → EndsWithin cfg have bytes now → ShortPicture have ≡ status_due cfg (length bytes)
+due_short : (cfg : Settings) → IsValid cfg → (have : ℕ) (bytes : List ℕ) (now : Option (List ℕ)) → EndsWithin cfg have bytes now → ShortPicture have ≡ status_due cfg (length bytes)
 due_short cfg b have bytes now h =
     let p : ℕ = picture_bytes cfg in
     let z : ℕ = length bytes in
     let part : have ≡ z % p = h.part ∙ rest_length cfg bytes in
     let few : z / p < most_pictures = subst (λ (n : ℕ). n < most_pictures) (length-tabulate _ _) h.few in
-    let some : 0 < p = omega (arith, picture_bytes-least cfg b.valid) in
+    let some : 0 < p = omega (arith, picture_bytes-least cfg b) in
     ap ShortPicture part
     ∙ sym (ap (λ (a : Bool). due a (nat_eq (z % p) 0) (z % p)) (lt_not_below (most_pictures * p) z (below p z most_pictures some few))
     ∙ ap (λ (a : Bool). due false a (z % p)) (other_than_0 (z % p) (omega (arith, part, h.some))))
@@ -224,7 +220,7 @@ due_too_long cfg bytes now h =
     let z : ℕ = length bytes in
     sym (ap (λ (a : Bool). due a (nat_eq (z % p) 0) (z % p)) (lt_below (most_pictures * p) z h.more))
 
-pub complete_case : (cfg : Settings) → IsBuilt cfg → (d : Drawn) (w r : Put) (s : Status) → Concludes cfg d w r s → (bytes : List ℕ) → d.before ≡ Some bytes →
+pub complete_case : (cfg : Settings) → IsValid cfg → (d : Drawn) (w r : Put) (s : Status) → Concludes cfg d w r s → (bytes : List ℕ) → d.before ≡ Some bytes →
     (Rises d.faults_before d.faults_now → ⊥) → (Rises w.faults_before w.faults_now → ⊥) → (Rises r.faults_before r.faults_now → ⊥) →
     IsDue cfg (length bytes) s
 complete_case cfg b d w r Ok h bytes told no_read no_write no_report = inr (due_ok cfg bytes d.now (h.encoded.read bytes told))

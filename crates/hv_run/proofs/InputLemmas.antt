@@ -7,15 +7,14 @@ use Rattle.std.proofs.lemmas.Nat.{mul-le}
 use Rattle.hv_lemmas.proofs.OptionLemmas.{some_same}
 use Rattle.hv_types.specs.declared.settings.Settings.{Settings}
 use Rattle.hv_types.specs.declared.picture.Picture.{Picture}
-use Rattle.hv_types.specs.Configuration.{most_pictures, picture_bytes, pictures_asked}
+use Rattle.hv_types.specs.Configuration.{IsValid, most_pictures, picture_bytes, pictures_asked}
 use Rattle.hv_types.specs.Outside.{Rises}
 use Rattle.hv_types.specs.Video.{pictures}
 use Rattle.hv_types.proofs.ConfigurationLemmas.{picture_bytes-least}
 use Rattle.hv_synth.specs.Generator.{generated}
 use Rattle.hv_synth.specs.GeneratorLaws.{IsVideo}
 use Rattle.hv_synth.proofs.FrontLemmas.{front_pictures, length-whole}
-use Rattle.hv_model.specs.Built.{IsBuilt}
-use Rattle.hv_model.specs.IntraPictures.{output}
+use Rattle.hv_model.specs.InterPictures.{output}
 use Rattle.hv_serial.specs.Transfers.{Drawn, Put, Grows, PutsPart, drawn}
 use Rattle.hv_serial.specs.Outcomes.{pictures_in, pictures_read, rest_in, AreGroups, WroteSome, WrotePart, IsReadToEnd, EndsWithin, GoesOn}
 use Rattle.hv_serial.specs.Endings.{EndsOk}
@@ -27,7 +26,7 @@ use Rattle.hv_run.specs.Input.{generated_bytes, input, input_bytes, input_drawn,
 -- ---- the source
 
 -- a count of faults that doesn't change doesn't rise from 0
-never_rises : Rises 0 0 → ⊥
+pub never_rises : Rises 0 0 → ⊥
 never_rises h = omega (arith, h.counted)
 
 -- where the faults of the input rise, they are those of the source
@@ -73,12 +72,12 @@ made_drawn cfg left = record {
   faults_now = 0;
 }
 
-module _ (cfg : Settings) (b : IsBuilt cfg) (video : IsVideo cfg) where
+module _ (cfg : Settings) (b : IsValid cfg) (video : IsVideo cfg) where
   abbrev all : List ℕ
   all = generated_bytes cfg
 
   some_bytes : 0 < picture_bytes cfg
-  some_bytes = omega (arith, picture_bytes-least cfg b.valid)
+  some_bytes = omega (arith, picture_bytes-least cfg b)
 
   -- what was read is a front of it
   read_front : (left : List ℕ) →
@@ -172,7 +171,7 @@ module _ (cfg : Settings) (b : IsBuilt cfg) (video : IsVideo cfg) where
         length-whole cfg.width cfg.height (generated cfg) video.whole some_bytes,
         video.count,
         mul-le (length (generated cfg)) (picture_bytes cfg) most_pictures (picture_bytes cfg)
-            (omega (arith, video.count, b.valid.pictures)) (omega arith),
+            (omega (arith, video.count, b.pictures)) (omega arith),
       )
 
   made_never : (left : List ℕ) (w r : Put) (s : Status) →

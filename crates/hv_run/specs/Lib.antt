@@ -1,3 +1,4 @@
 pub mod Input
+pub mod KnownEnds
 pub mod Report
 pub mod Statuses

@@ -4,11 +4,11 @@ use Rattle.hv_types.specs.declared.settings.Settings.{Settings}
 use Rattle.hv_types.specs.declared.settings.ConfigError.{ConfigError}
 use Rattle.hv_types.specs.declared.picture.Picture.{Picture}
 use Rattle.hv_types.specs.Outside.{Rises}
-use Rattle.hv_model.specs.IntraPictures.{output}
+use Rattle.hv_model.specs.InterPictures.{output}
 use Rattle.hv_words.specs.declared.refusal.WordsError.{WordsError}
 use Rattle.hv_words.specs.declared.refusal.WordsError.TheVariants as words
 use Rattle.hv_words.specs.Answers.{IsLine}
-use Rattle.hv_words.specs.CommandLine.{Refusal, no_command_line, faulty, not_built}
+use Rattle.hv_words.specs.CommandLine.{Refusal, no_command_line, faulty}
 use Rattle.hv_types.specs.Texts.{fault_text}
 use Rattle.hv_serial.specs.declared.answers.Totals.{Totals}
 use Rattle.hv_serial.specs.declared.answers.EncodeError.{EncodeError}
@@ -34,9 +34,6 @@ short_line have size =
 abbrev pub config_line : ConfigError → List ℕ
 config_line error = fault_text error ++ codes "\n"
 
-abbrev pub not_built_line : List ℕ
-not_built_line = codes "not built\n"
-
 abbrev pub read_fault_line : List ℕ
 read_fault_line = codes "read fault\n"
 
@@ -53,13 +50,11 @@ too_long_line = codes "more than 400000 pictures\n"
 abbrev pub words_line : WordsError → List ℕ
 words_line (words.Parse text) = string_bytes text
 words_line (words.Config error) = config_line error
-words_line words.NotBuilt = not_built_line
 words_line words.NoMemory = no_memory_line
 
 abbrev pub is_want_of_memory : WordsError → Bool
 is_want_of_memory (words.Parse text) = false
 is_want_of_memory (words.Config error) = false
-is_want_of_memory words.NotBuilt = false
 is_want_of_memory words.NoMemory = true
 
 -- an encoding of pictures of this size doesn't come to its end
@@ -104,4 +99,3 @@ pub record ReportsText (r : Put) : Type 0 where
 abbrev pub ReportsRefusal : Put → Refusal → Type 0
 ReportsRefusal r no_command_line = ReportsText r
 ReportsRefusal r (faulty error) = Reports r (config_line error)
-ReportsRefusal r not_built = Reports r not_built_line

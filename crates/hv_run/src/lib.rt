@@ -6,6 +6,8 @@ mod generator_tests;
 #[cfg(test)]
 mod group_tests;
 #[cfg(test)]
+mod inter_tests;
+#[cfg(test)]
 mod intra_tests;
 mod known_ends;
 mod report;

@@ -48,7 +48,6 @@ pub(crate) fn report_words<P: Sink>(report: &mut P, error: &WordsError)
     let _ = match error {
         WordsError::Parse { text } => put_line(report, text.as_str()),
         WordsError::Config { error } => put_line(report, config_line(*error).as_str()),
-        WordsError::NotBuilt => put_line(report, "not built\n"),
         WordsError::NoMemory => put_line(report, "no memory\n"),
     };
 }

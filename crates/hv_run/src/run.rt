@@ -3,11 +3,10 @@
 ghost use Rattle.std.specs.Prelude.{◌≡◌, ◌≢◌, ◌⊎◌, ℕ, List, Some, length, IsTrue, false};
 ghost use Rattle.hv_types.specs.declared.settings.Settings.{Settings as SettingsSeen};
 ghost use Rattle.hv_types.specs.declared.picture.Picture.{Picture as PictureSeen};
-ghost use Rattle.hv_types.specs.Configuration.{picture_bytes};
+ghost use Rattle.hv_types.specs.Configuration.{IsValid, picture_bytes};
 ghost use Rattle.hv_types.specs.Outside.{Rises};
-ghost use Rattle.hv_model.specs.Built.{IsBuilt};
 ghost use Rattle.hv_model.specs.Decoding.{decode_of};
-ghost use Rattle.hv_model.specs.IntraPictures.{encode_of, recon_of, output};
+ghost use Rattle.hv_model.specs.InterPictures.{encode_of, recon_of, output};
 ghost use Rattle.hv_words.specs.CommandLine.{AsksFor, IsRefused, Refusal, refusal};
 ghost use Rattle.hv_serial.specs.Transfers.{drawn, put, Grows, PutsPart};
 ghost use Rattle.hv_serial.specs.Outcomes.{pictures_in, IsReadToEnd, EndsWithin, GoesOn};
@@ -20,7 +19,7 @@ ghost use Rattle.hv_run.specs.Statuses.{status_of as status_of_error};
 
 use crate::report::{report_error, report_totals, report_words};
 use crate::status::Status;
-use hv_model::{each_intra_picture_is_shown, intra_streams_are_decoded};
+use hv_model::{each_inter_picture_is_shown, inter_streams_are_decoded};
 use hv_serial::{EncodeError, encode_video};
 use hv_synth::{Synth, generated_is_video};
 use hv_types::{Config, Failed, Gate, Sink, Source, Words};
@@ -32,8 +31,7 @@ use std::thread::Threads;
 /// Reads the words of a command line, encodes the video of the source, writes the output, and then
 /// the line of the status to the report.
 ///
-/// The words are those of `config_of_words`, with any size, group and levels that `Config::checked`
-/// accepts. Built so far are `--effort 0`, or `--group 1` at any effort; others are refused. The
+/// The words are those of `config_of_words`, with any settings that `Config::checked` accepts. The
 /// video is raw 8-bit 4:2:0, at most 400,000 pictures, in groups of which the last may have fewer
 /// pictures. Where the words name a generator, its video is encoded in the place of the source's,
 /// which isn't touched. A group is read whole, encoded and written before the next byte is read:
@@ -141,6 +139,12 @@ pub fn run_encode<S: Source, K: Sink, P: Sink, G: Gate, R: Threads + Wait + Sync
     ensures other_report { (line : List ℕ) → fixed_line result ≡ Some line →
         Reports (put P.written P.faults report.old report.new) line }
 
+    // All at once of accepted words: how reading and writing ended, and what is reported.
+    ensures concludes { (cfg : SettingsSeen) → AsksFor words.now cfg →
+        Concludes cfg (input_drawn cfg (drawn S.left S.faults source.old source.new))
+        (put K.written K.faults out.old out.new)
+        (put P.written P.faults report.old report.new) result }
+
     // Where nothing fails, the length of the input says how it ends.
     ensures complete { (cfg : SettingsSeen) (bytes : List ℕ) → AsksFor words.now cfg →
         input cfg (S.left source.old) ≡ Some bytes →
@@ -149,8 +153,8 @@ pub fn run_encode<S: Source, K: Sink, P: Sink, G: Gate, R: Threads + Wait + Sync
         ¬ Rises (P.faults report.old) (P.faults report.new) →
         IsDue cfg (length bytes) result }
 {
-    intra_streams_are_decoded();
-    each_intra_picture_is_shown();
+    inter_streams_are_decoded();
+    each_inter_picture_is_shown();
     generated_is_video();
     match config_of_words(alloc, words) {
         Ok(config) => encode_input(alloc, &config, source, out, report),
@@ -181,7 +185,7 @@ fn encode_input<S: Source, K: Sink, P: Sink>(
     out: &mut K,
     report: &mut P,
 ) -> Status
-    requires built { IsBuilt config.now }
+    requires valid { IsValid config.now }
     ensures concludes { Concludes config.now
         (input_drawn config.now (drawn S.left S.faults source.old source.new))
         (put K.written K.faults out.old out.new)
@@ -205,7 +209,7 @@ fn encode_and_report<S: Source, K: Sink, P: Sink>(
     out: &mut K,
     report: &mut P,
 ) -> Status
-    requires built { IsBuilt config.now }
+    requires valid { IsValid config.now }
     ensures { Concludes config.now (drawn S.left S.faults source.old source.new)
         (put K.written K.faults out.old out.new)
         (put P.written P.faults report.old report.new) result }

@@ -200,7 +200,6 @@ fn words_that_are_refused(rt: HostRuntime) -> Result<(), Fail> {
         ("--width 64 --height 2178 --qp 26 --levels 0 --group 1 --effort 0", "size out of range\n"),
         ("--width 4096 --height 2176 --qp 9 --levels 0 --group 31 --effort 0", "group too large\n"),
         ("--width 64 --height 64 --qp 52 --levels 0 --group 1 --effort 0", "value out of range\n"),
-        ("--width 64 --height 64", "not built\n"),
     ] {
         refuses(&rt, rt.alloc(), line, report)?;
     }

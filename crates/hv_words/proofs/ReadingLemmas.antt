@@ -13,7 +13,7 @@ use Rattle.clap.specs.declared.error.kind.ErrorKind.{ErrorKind}
 use Rattle.clap.specs.declared.error.kind.ErrorKind.TheVariants.{OutOfMemory}
 use Rattle.hv_types.specs.declared.settings.Settings.{Settings}
 use Rattle.hv_words.specs.declared.refusal.WordsError.{WordsError}
-use Rattle.hv_words.specs.declared.refusal.WordsError.TheVariants.{Parse, Config, NotBuilt, NoMemory}
+use Rattle.hv_words.specs.declared.refusal.WordsError.TheVariants.{Parse, Config, NoMemory}
 use Rattle.hv_words.specs.Answers.{Rejects}
 use Rattle.hv_words.specs.Command.{command}
 use Rattle.hv_words.specs.CommandLine.{is_empty, named, rows_of_words, settings_in, settings_of}
@@ -68,5 +68,4 @@ not_taken app texts words kind is_command are_words fails other =
 pub Rejects-weaker : {A B : Type 0} (error : WordsError) → (A → B) → Rejects A error → Rejects B error
 Rejects-weaker (Parse text) f h = f h
 Rejects-weaker (Config error) f h = absurd h
-Rejects-weaker NotBuilt f h = absurd h
 Rejects-weaker NoMemory f h = h

@@ -10,7 +10,6 @@ use Rattle.hv_types.specs.declared.settings.Emit.{Emit}
 use Rattle.hv_types.specs.declared.settings.Emit.TheVariants.{Stream, Recon}
 use Rattle.hv_types.specs.declared.settings.ConfigError.{ConfigError}
 use Rattle.hv_types.specs.Configuration.{fault_of}
-use Rattle.hv_model.specs.Built.{is_built}
 use Rattle.hv_words.specs.Command.{command, program_name}
 
 -- ---- what the command makes of the words
@@ -89,19 +88,14 @@ settings_of words = cond (is_taken words) (settings_in (rows_of_words words)) No
 -- ---- refusals
 
 -- why words are refused: they are no command line of this program, or the settings that they ask
--- for have this fault, or aren't built yet
+-- for have this fault
 pub data Refusal : Type 0 where
   no_command_line : Refusal
   faulty : ConfigError → Refusal
-  not_built : Refusal
-
-abbrev pub refusal_by : Option ConfigError → Settings → Option Refusal
-refusal_by (Some error) settings = Some (faulty error)
-refusal_by None settings = cond (is_built settings) None (Some not_built)
 
 abbrev pub refusal_of_settings : Option Settings → Option Refusal
 refusal_of_settings None = Some no_command_line
-refusal_of_settings (Some settings) = refusal_by (fault_of settings) settings
+refusal_of_settings (Some settings) = option_map faulty (fault_of settings)
 
 abbrev pub refusal : List Text → Option Refusal
 refusal words = refusal_of_settings (settings_of words)

@@ -15,9 +15,7 @@ pub(crate) const PROGRAM_NAME: &str = "hv_encode";
 const ABOUT: &str = "Encodes raw video, 8-bit 4:2:0, from standard input to an H.265 byte stream \
     on standard output";
 
-const AFTER_HELP: &str =
-    "Built so far: --effort 0, or --group 1 at any effort. Other settings are answered with 'not \
-    built'. More workers than one encode as one does.";
+const AFTER_HELP: &str = "More workers than one encode as one does.";
 
 const WIDTH: &str = "Width of a picture in luma samples: even, 8 to 4096";
 

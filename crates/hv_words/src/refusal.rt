@@ -20,9 +20,6 @@ pub enum WordsError {
     /// The settings that they ask for have this fault.
     #[error("{error}")]
     Config { error: ConfigError },
-    /// The settings have no fault, and aren't built yet.
-    #[error("not built")]
-    NotBuilt,
     /// There was not enough memory to read them.
     #[error("no memory")]
     NoMemory,

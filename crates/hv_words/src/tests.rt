@@ -145,6 +145,8 @@ fn help_names_every_option(rt: HostRuntime) -> Result<(), Fail> {
 #[rattlefmt::skip]
 fn words_are_read_where_there_is_memory(rt: HostRuntime) -> Result<(), Fail> {
     for (line, answer) in [
+        ("--width 64 --height 64", "Ok 64x64 32 3"),
+        ("--width 64 --height 64 --effort 1 --group 2", "Ok 64x64 32 3"),
         ("--effort 0 --height 50 --group=1 --width +66", "Ok 66x50 32 3"),
         ("--width 64 --height 64 --effort 0", "Ok 64x64 32 3"),
         ("--width 64 --height 64 --effort 0 --group 64 --levels 2", "Ok 64x64 32 2"),
@@ -160,8 +162,6 @@ fn words_are_read_where_there_is_memory(rt: HostRuntime) -> Result<(), Fail> {
         ("--width 64 --height 64 --qp 300", "value out of range"),
         ("--width 64 --height 64 --workers 17", "value out of range"),
         ("--width 64 --height 64 --synth 1 --pictures 400001", "value out of range"),
-        ("--width 64 --height 64", "not built"),
-        ("--width 64 --height 64 --effort 1 --group 2", "not built"),
     ] {
         let text = match config_of_words(rt.alloc(), &words_of(rt.alloc(), line)?) {
             Ok(config) => {

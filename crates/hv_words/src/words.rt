@@ -2,7 +2,6 @@
 
 ghost use Rattle.std.specs.Prelude.{◌≡◌, ⊤, map, Some, None, IfOk, IfErr};
 ghost use Rattle.clap.specs.Words.{Row, found_of, rows_of};
-ghost use Rattle.hv_model.specs.Built.{is_built};
 ghost use Rattle.hv_words.specs.CommandLine.{AsksFor, refusal, settings_of, settings_in, emit_in, emit_of_text, synth_in, number_in, whole_in, byte_in, named, refusal_of_settings};
 ghost use Rattle.hv_words.specs.Answers.{Answers, HasLine, Rejects};
 
@@ -23,8 +22,7 @@ use std::alloc::{AllocError, Global};
 /// `--segment` stands as 255.
 ///
 /// `Parse` comes just where `clap` refuses the words, also for `--help`, or `--emit` has another
-/// value; `Config` where the settings have a fault, and `NotBuilt` where they have none and aren't
-/// built yet. `NoMemory` may come at any time.
+/// value, and `Config` where the settings have a fault. `NoMemory` may come at any time.
 pub fn config_of_words(alloc: Global, words: &Words) -> Result<Config, WordsError>
     ensures ok { IfOk result (λ config. AsksFor words.now config) }
     ensures err { IfErr result (Answers (refusal words.now)) }
@@ -36,7 +34,7 @@ pub fn config_of_words(alloc: Global, words: &Words) -> Result<Config, WordsErro
     }
 }
 
-/// Tests settings, and that they are built so far.
+/// Tests settings.
 fn checked(settings: Settings) -> Result<Config, WordsError>
     ensures ok { IfOk result (λ config.
         (config ≡ settings) × (refusal_of_settings (Some settings) ≡ None)) }
@@ -44,18 +42,9 @@ fn checked(settings: Settings) -> Result<Config, WordsError>
     ensures text { IfErr result HasLine }
 {
     match Config::checked(settings) {
-        Ok(config) if is_built(&settings) => Ok(config),
-        Ok(_) => Err(WordsError::NotBuilt),
+        Ok(config) => Ok(config),
         Err(error) => Err(WordsError::Config { error }),
     }
-}
-
-/// Whether the program is built for settings: those in which nothing is chosen, or each picture is
-/// a group of its own.
-fn is_built(settings: &Settings) -> bool
-    ensures { result ≡ is_built settings.now }
-{
-    settings.effort == 0 || settings.group == 1
 }
 
 /// The settings that the words ask for, if they are those of the command. A value of `--emit` that

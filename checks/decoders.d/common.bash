@@ -1,7 +1,10 @@
 # What checks/decoders and checks/soak share: videos of several kinds, and their comparison with what decoders of others
-# show. It is sourced, in a folder for its files, with `top` as the top of the checkout.
+# show. It is sourced, in a folder for its files, with `top` as the top of the checkout. HV_ENCODE may name another
+# program than bin/hv_encode.
 #
 # A decoder that is not installed is skipped, and said so.
+
+program=${HV_ENCODE-$top/bin/hv_encode}
 
 libde265=
 for name in libde265-dec265 dec265; do
@@ -50,8 +53,8 @@ with_libde265() {
 try_words() {
     local name=$1
     shift
-    "$top/bin/hv_encode" "$@" <video >stream
-    "$top/bin/hv_encode" "$@" --emit recon <video >expected
+    "$program" "$@" <video >stream
+    "$program" "$@" --emit recon <video >expected
     decode "$name"
 }
 
@@ -67,7 +70,15 @@ decode() {
     fi
 }
 
-# Makes a video of this kind with so many pictures of a size.
+# Waves and a grid that move by parts of a sample from picture to picture, as ffmpeg's filter `geq` draws them.
+panned() {
+    local x='(X+1.25*N)' y='(Y+0.75*N)'
+    local waves="60*sin($x/7)*cos($y/9)+25*sin(($x+$y)/3)"
+    echo "lum='128+$waves+if(lt(mod($x,24),3),40,0)':cb='128+50*sin($x/11)':cr='128+50*cos($y/13)'"
+}
+
+# Makes a video of this kind with so many pictures of a size. What moves is panned by parts of a sample (`pan`), zoomed
+# (`zoom`), or cut to something else in its middle (`cut`); a still doesn't move.
 make_video() {
     local kind=$1 size=$2 pictures=$3 source
     local width=${size%x*} height=${size#*x} drawn="nullsrc=size=$size,format=yuv420p,geq=interpolation=n"
@@ -76,6 +87,17 @@ make_video() {
         head -c $((pictures * width * height * 3 / 2)) /dev/urandom >video
         return
         ;;
+    cut)
+        make_video pan "$size" $((pictures / 2))
+        mv video before
+        make_video testsrc2 "$size" $((pictures - pictures / 2))
+        cat before video >both
+        mv both video
+        return
+        ;;
+    pan) source=$drawn:$(panned) ;;
+    zoom) source="mandelbrot=size=$size" ;;
+    still) source="smptebars=size=$size" ;;
     ramps) source=$drawn:"lum='mod(3*X+2*Y+9*N,256)':cb='mod(X+5*Y,256)':cr='mod(7*X+N,256)'" ;;
     flat) source="color=c=0x4080c0:size=$size" ;;
     edges)

@@ -70,18 +70,18 @@ place_below n k j stride some =
     ap (place_of n stride) same ∙ place_is n stride (k / n + j) (k % n) (mod_below k n some) ∙
     omega (arith, add-mul (k / n) j stride)
 
--- sums of rows, down their columns
-pub sums_are_filtered : (n k stride rows : ℕ) (across down : List ℤ) (w : List ℕ) (sums : List ℤ) → k < n * n →
-    n + length down ≤ rows + 1 →
+-- sums of rows, down their columns: m rows of n
+pub sums_are_filtered : (n m k stride rows : ℕ) (across down : List ℤ) (w : List ℕ) (sums : List ℤ) → k < m * n →
+    m + length down ≤ rows + 1 →
     HasFirst (pos 0) (rows * n) (λ k. strided_sum across w (place_of n stride k) 1) sums →
     weighted_sample (int_shr (strided_total down sums k n) 6) ≡ filtered_twice across down w stride n k
-sums_are_filtered zero k stride rows across down w sums inside enough has = absurd (omega (arith, inside))
-sums_are_filtered (suc m) k stride rows across down w sums inside enough has =
-    let n : ℕ = suc m in
+sums_are_filtered zero m k stride rows across down w sums inside enough has = absurd (omega (arith, inside))
+sums_are_filtered (suc i) m k stride rows across down w sums inside enough has =
+    let n : ℕ = suc i in
     ap (λ z. weighted_sample (int_shr z 6))
     (weighted_same down _ _ (λ j low.
-    let last : (n + j) * n ≤ rows * n = mul-le-mul_right n (omega (arith, enough, low)) in
-    has (k + j * n) (omega (arith, last, inside, add-mul n j n)) ∙
+    let last : (m + j) * n ≤ rows * n = mul-le-mul_right n (omega (arith, enough, low)) in
+    has (k + j * n) (omega (arith, last, inside, add-mul m j n)) ∙
     ap (λ at. strided_sum across w at 1) (place_below n k j stride (omega arith))))
 
 -- the samples behind the first ones hold what the taps down the columns meet

@@ -1,5 +1,6 @@
 mod ColumnLemmas
 mod EightSumLemmas
+mod FractionLemmas
 mod InterpolationLemmas
 mod LaneLemmas
 mod PairLemmas

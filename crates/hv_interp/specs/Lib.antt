@@ -1,3 +1,4 @@
 pub mod Windows
 pub mod Filters
+pub mod Fractions
 pub mod Lanes

@@ -221,8 +221,8 @@ fn sum_by_eights<const T: usize>(
     requires most { T ≤ 8 }
     requires light { weight_of taps.now ≤ 112 }
     requires stride { stride < 2 ^ 32 }
-    requires size { size ≤ 64 }
-    requires rows { rows ≤ 71 }
+    requires size { size ≤ 96 }
+    requires rows { rows ≤ 88 }
     requires inside { HoldsTaps samples.now stride 1 T size rows }
     requires room { rows * size ≤ length sums.old }
     ensures { HasFirst (pos 0) (rows * size)
@@ -260,8 +260,8 @@ fn sum_by_sixteens<const T: usize>(
     requires light { weight_of taps.now ≤ 112 }
     requires spread { AreSpread T taps.now spread.now }
     requires stride { stride < 2 ^ 32 }
-    requires size { size ≤ 64 }
-    requires rows { rows ≤ 71 }
+    requires size { size ≤ 96 }
+    requires rows { rows ≤ 88 }
     requires inside { HoldsTaps samples.now stride 1 T size rows }
     requires room { rows * size ≤ length sums.old }
     ensures { HasFirst (pos 0) (rows * size)
@@ -293,8 +293,8 @@ pub(crate) fn sum_rows<const T: usize>(
     requires even { 2 * (T / 2) ≡ T }
     requires light { weight_of taps.now ≤ 112 }
     requires stride { stride < 2 ^ 32 }
-    requires size { size ≤ 64 }
-    requires rows { rows ≤ 71 }
+    requires size { size ≤ 96 }
+    requires rows { rows ≤ 88 }
     requires inside { HoldsTaps samples.now stride 1 T size rows }
     requires room { rows * size ≤ length sums.old }
     ensures { HasFirst (pos 0) (rows * size)
@@ -320,7 +320,7 @@ fn widened<const T: usize>(taps: &[i8; T]) -> [i16; T]
     wide
 }
 
-/// Filters sums of rows down their columns, the first sixteens of a block.
+/// Filters sums of rows down their columns, the first sixteens of so many rows of `size` columns.
 ///
 /// It isn't inlined, so that the compiler doesn't know the taps, and multiplies pairs.
 #[inline(never)]
@@ -328,6 +328,7 @@ fn filter_sixteens<const T: usize>(
     taps: &[i16; T],
     sums: &[i16],
     size: usize,
+    rows: usize,
     sixteens: usize,
     out: &mut [u8],
 )
@@ -336,10 +337,11 @@ fn filter_sixteens<const T: usize>(
     requires even { 2 * (T / 2) ≡ T }
     requires light { weight_of taps.now ≤ 112 }
     requires numbers { (k : ℕ) → FitsSigned w16 (slice_index_or sums.now k (pos 0)) }
-    requires size { size ≤ 64 }
-    requires sixteens { 16 * sixteens ≤ size * size }
-    requires inside { (size + T - 1) * size ≤ length sums.now }
-    requires room { length out.old ≡ size * size }
+    requires size { size ≤ 96 }
+    requires rows { rows ≤ 81 }
+    requires sixteens { 16 * sixteens ≤ rows * size }
+    requires inside { (rows + T - 1) * size ≤ length sums.now }
+    requires room { length out.old ≡ rows * size }
     ensures { HasFirst 0 (16 * sixteens)
         (λ k. weighted_sample (int_shr (strided_total taps.now sums.now k size) 6)) out.new }
 {
@@ -351,21 +353,28 @@ fn filter_sixteens<const T: usize>(
     }
 }
 
-/// Filters sums of rows down their columns.
-pub(crate) fn filter_sums<const T: usize>(taps: &[i8; T], sums: &[i16], size: usize, out: &mut [u8])
+/// Filters sums of rows down their columns: so many rows of `size` columns.
+pub(crate) fn filter_sums<const T: usize>(
+    taps: &[i8; T],
+    sums: &[i16],
+    size: usize,
+    rows: usize,
+    out: &mut [u8],
+)
     requires some { 0 < T }
     requires most { T ≤ 8 }
     requires even { 2 * (T / 2) ≡ T }
     requires light { weight_of taps.now ≤ 112 }
     requires numbers { (k : ℕ) → FitsSigned w16 (slice_index_or sums.now k (pos 0)) }
-    requires size { size ≤ 64 }
-    requires inside { (size + T - 1) * size ≤ length sums.now }
-    requires room { length out.old ≡ size * size }
-    ensures { HasFirst 0 (size * size)
+    requires size { size ≤ 96 }
+    requires rows { rows ≤ 81 }
+    requires inside { (rows + T - 1) * size ≤ length sums.now }
+    requires room { length out.old ≡ rows * size }
+    ensures { HasFirst 0 (rows * size)
         (λ k. weighted_sample (int_shr (strided_total taps.now sums.now k size) 6)) out.new }
 {
     let sixteens = out.len() / 16;
-    filter_sixteens(&widened(taps), sums, size, sixteens, out);
+    filter_sixteens(&widened(taps), sums, size, rows, sixteens, out);
     for k in 16 * sixteens..out.len() {
         out[k] = rounded(sum_of_numbers(taps, sums, k, size) >> 6);
     }

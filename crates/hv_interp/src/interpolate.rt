@@ -35,7 +35,7 @@ fn filter_twice_in<const T: usize, const ROOM: usize>(
     let mut sums = [0; ROOM];
     sum_rows(across, samples, stride, size, rows, &mut sums);
     let sums = &sums[..];
-    filter_sums(down, &sums[..rows * size], size, out);
+    filter_sums(down, &sums[..rows * size], size, size, out);
 }
 
 /// Filters a block of `size` columns and rows along rows and then down columns.

@@ -3,6 +3,7 @@
 
 mod columns;
 mod filters;
+mod fractions;
 mod interpolate;
 mod lanes;
 mod pairs;
@@ -13,4 +14,5 @@ mod tests;
 mod totals;
 mod window;
 
+pub use fractions::predict_fractions;
 pub use predict::predict_inter;

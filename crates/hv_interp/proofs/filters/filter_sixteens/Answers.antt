@@ -12,16 +12,16 @@ use Rattle.hv_interp.proofs.filters.filter_sixteens.Goals as goal
 
 pub eight_totals-first-requires : goal.eight_totals-first-requires
 eight_totals-first-requires g c =
-    let e : c.args.size + g.row.T - 1 ≡ c.args.size + (g.row.T - 1) = omega (arith, c.requires.some) in
-    let rows = ap (λ m. m * c.args.size) e ∙ add-mul c.args.size (g.row.T - 1) c.args.size in
-    let few = mul-le-mul_right c.args.size c.requires.size in
+    let e : c.args.rows + g.row.T - 1 ≡ c.args.rows + (g.row.T - 1) = omega (arith, c.requires.some) in
+    let rows = ap (λ m. m * c.args.size) e ∙ add-mul c.args.rows (g.row.T - 1) c.args.size in
+    let few = mul-le-mul_right c.args.size c.requires.rows in
     (omega (arith, c.requires.most), (c.requires.some, (c.requires.most, (c.requires.even, (c.requires.light, (c.requires.numbers, (omega (arith, few, c.requires.size, c.requires.sixteens), (omega arith, omega (arith, rows, c.requires.inside, c.requires.sixteens)))))))))
 
 pub eight_totals-second-requires : goal.eight_totals-second-requires
 eight_totals-second-requires g c =
-    let e : c.args.size + g.row.T - 1 ≡ c.args.size + (g.row.T - 1) = omega (arith, c.requires.some) in
-    let rows = ap (λ m. m * c.args.size) e ∙ add-mul c.args.size (g.row.T - 1) c.args.size in
-    let few = mul-le-mul_right c.args.size c.requires.size in
+    let e : c.args.rows + g.row.T - 1 ≡ c.args.rows + (g.row.T - 1) = omega (arith, c.requires.some) in
+    let rows = ap (λ m. m * c.args.size) e ∙ add-mul c.args.rows (g.row.T - 1) c.args.size in
+    let few = mul-le-mul_right c.args.size c.requires.rows in
     (omega (arith, c.requires.most), (c.requires.some, (c.requires.most, (c.requires.even, (c.requires.light, (c.requires.numbers, (omega (arith, few, c.requires.size, c.requires.sixteens), (omega arith, omega (arith, rows, c.requires.inside, c.requires.sixteens)))))))))
 
 pub put_totals-requires-clause-range : goal.put_totals-requires-clause-range

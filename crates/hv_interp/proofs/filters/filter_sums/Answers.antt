@@ -9,9 +9,9 @@ use Rattle.hv_interp.proofs.filters.filter_sums.Goals as goal
 
 pub sum_of_numbers-requires : goal.sum_of_numbers-requires
 sum_of_numbers-requires g c =
-    let e : c.args.size + g.row.T - 1 ≡ c.args.size + (g.row.T - 1) = omega (arith, c.requires.some) in
-    let rows = ap (λ m. m * c.args.size) e ∙ add-mul c.args.size (g.row.T - 1) c.args.size in
-    let few = mul-le-mul_right c.args.size c.requires.size in
+    let e : c.args.rows + g.row.T - 1 ≡ c.args.rows + (g.row.T - 1) = omega (arith, c.requires.some) in
+    let rows = ap (λ m. m * c.args.size) e ∙ add-mul c.args.rows (g.row.T - 1) c.args.size in
+    let few = mul-le-mul_right c.args.size c.requires.rows in
     (omega (arith, c.requires.most), (c.requires.some, (c.requires.most, (omega (arith, few, c.requires.size), (omega arith, omega (arith, rows, c.requires.inside))))))
 
 pub loop-k-preserved : goal.loop-k-preserved

@@ -22,7 +22,7 @@ filter_sums-requires g c =
               (
                 sums_have_16_bits count c.args.across.now c.args.samples.now sums (place_of c.args.size c.args.stride) 1 c.requires.across_light
                     c.type_inv.samples c.sum_rows.ensures,
-                (c.requires.size, (omega (arith, all), c.requires.room)),
+                (omega (arith, c.requires.size), (omega (arith, c.requires.size), (omega (arith, all), c.requires.room))),
               ),
             ),
           ),
@@ -34,6 +34,6 @@ pub returns : goal.returns
 returns g c k inside =
     let count : ℕ = (c.args.size + g.row.T - 1) * c.args.size in
     c.filter_sums.ensures k inside ∙
-    sums_are_filtered c.args.size k c.args.stride (c.args.size + g.row.T - 1) c.args.across.now c.args.down.now c.args.samples.now
+    sums_are_filtered c.args.size c.args.size k c.args.stride (c.args.size + g.row.T - 1) c.args.across.now c.args.down.now c.args.samples.now
     (take count c.sum_rows.new.sums) inside (omega arith)
     (λ i below. get_or-take count c.sum_rows.new.sums i (pos 0) below ∙ c.sum_rows.ensures i below)

@@ -1,46 +1,67 @@
 -- The vectors of a block: those of the full stage, and that they are the definition's.
-use Rattle.std.proofs.Common.{◌≡◌, ℕ, ◌+◌, ◌*◌, ◌/◌, ◌%◌, ◌<◌, cond, nat_lt, List, length, set, slice_index_or, get_or, arith, sym, subst, ap, ap₂, ◌∙◌, below_more, pos}
+use Rattle.std.proofs.Common.{◌≡◌, ℕ, ◌+◌, ◌*◌, ◌/◌, ◌%◌, ◌<◌, ◌≤◌, cond, List, get_or, arith, sym, subst, ap, ap₂, ◌∙◌, pos}
 use Rattle.std.proofs.lemmas.Int.{ints}
-use Rattle.std.proofs.lemmas.List.{get_or-set_same, get_or-set_other}
+use Rattle.hv_lemmas.proofs.ComparisonLemmas.{lt_below, lt_not_below}
 use Rattle.hv_types.specs.Samples.{Plane}
 use Rattle.hv_plan.specs.declared.prediction.Mv.{Mv}
 use Rattle.hv_search_model.specs.MotionSearch.{vector, times, Score, least_around, full_score, fractional_score, quarter_size, coarse_vector, best_vector, scores_of}
 use Rattle.hv_search_model.specs.MotionLaws.{IsWithin}
-use Rattle.hv_search_model.proofs.ReachLemmas.{least_around_within}
+use Rattle.hv_search.specs.declared.field.Field.{Field}
+use Rattle.hv_search.specs.declared.part.Part.{Part}
 use Rattle.hv_search.specs.Coarse.{block_score}
-use Rattle.hv_search.specs.Numbers.{side_of, left_of, top_of, IsInside, full_candidate, ShowFull, no_vector, found_vector, node_found, AreFound}
+use Rattle.hv_search.specs.Field.{IsNear, part_score, node_score}
+use Rattle.hv_search.specs.Numbers.{side_of, left_of, top_of, IsInside, full_candidate, ShowFull, found_vector, node_found}
+use Rattle.hv_search.proofs.FieldLemmas.{full_near}
 
 pub times_4_within : (mv : Mv) → IsWithin 16 mv → IsWithin 64 (times 4 mv)
 times_4_within mv h =
     record { across = omega (arith, ints, h.across); down = omega (arith, ints, h.down) }
 
--- the key of a node that lies inside
-pub shown_is : (input reference : Plane) (x y : ℕ) (centre : Mv) (keys : List ℕ) (n key : ℕ) (full : Mv) →
-    ShowFull input reference x y centre keys → n < 85 → IsInside input x y n → key ≡ get_or keys n 0 →
-    full ≡ full_candidate centre (key % 512) →
-    full ≡ least_around (full_score input reference (x + left_of n) (y + top_of n) (side_of n)) 8 1 centre
-shown_is input reference x y centre keys n key full shows below inside at is =
-    is ∙ ap (λ k. full_candidate centre (k % 512)) at ∙ sym (shows n below inside)
+-- the vector of the full stage of a node that lies inside, in quarters of a sample
+pub whole_shown : (input reference : Plane) (x y : ℕ) (centre : Mv) (keys : List ℕ) (n : ℕ) (mv : Mv) →
+    ShowFull input reference x y centre keys → n < 85 → IsInside input x y n →
+    mv ≡ times 4 (full_candidate centre (get_or keys n 0 % 512)) →
+    mv ≡ times 4 (least_around (full_score input reference (x + left_of n) (y + top_of n) (side_of n)) 8 1 centre)
+whole_shown input reference x y centre keys n mv shows below inside is =
+    is ∙ ap (times 4) (sym (shows n below inside))
 
-pub shown_within : (score : Score) (centre full : Mv) → IsWithin 64 centre → full ≡ least_around score 8 1 centre → IsWithin 72 full
-shown_within score centre full h is = subst (IsWithin 72) (sym is) (least_around_within score 64 8 1 centre h)
+-- it is the node's where halves aren't tried
+pub whole_found : (effort : ℕ) (input reference : Plane) (x y : ℕ) (centre : Mv) (n : ℕ) (mv : Mv) → effort < 2 →
+    mv ≡ times 4 (least_around (full_score input reference (x + left_of n) (y + top_of n) (side_of n)) 8 1 centre) →
+    mv ≡ node_found effort input reference centre x y n
+whole_found effort input reference x y centre n mv less is =
+    let f : Score = fractional_score input reference (x + left_of n) (y + top_of n) (side_of n) in
+    let whole : Mv = times 4 (least_around (full_score input reference (x + left_of n) (y + top_of n) (side_of n)) 8 1 centre) in
+    is ∙ sym (ap (λ b. cond b whole (least_around f 1 1 (least_around f 1 2 whole))) (lt_below effort 2 less))
 
--- one vector more
-pub found_more : (effort : ℕ) (input reference : Plane) (centre : Mv) (x y m : ℕ) (vectors : List Mv) (mv full : Mv) →
-    m < length vectors → AreFound effort input reference centre x y m vectors →
-    (IsInside input x y m → full ≡ least_around (full_score input reference (x + left_of m) (y + top_of m) (side_of m)) 8 1 centre) →
-    (IsInside input x y m → mv ≡ cond (nat_lt effort 2) (times 4 full)
-    (least_around (fractional_score input reference (x + left_of m) (y + top_of m) (side_of m)) 1 1
-    (least_around (fractional_score input reference (x + left_of m) (y + top_of m) (side_of m)) 1 2 (times 4 full)))) →
-    AreFound effort input reference centre x y (m + 1) (set vectors m mv)
-found_more effort input reference centre x y m vectors mv full room before is made =
-    below_more
-    (λ n. IsInside input x y n → slice_index_or (set vectors m mv) n no_vector ≡ node_found effort input reference centre x y n) m
-    (λ n below inside. get_or-set_other vectors m n mv no_vector (λ same. absurd (omega (arith, same, below))) ∙ before n below inside)
-    (λ inside.
-    let f : Score = fractional_score input reference (x + left_of m) (y + top_of m) (side_of m) in
-    get_or-set_same vectors m mv no_vector room ∙ made inside ∙
-    ap (λ v. cond (nat_lt effort 2) (times 4 v) (least_around f 1 1 (least_around f 1 2 (times 4 v)))) (is inside))
+-- and else what the stages of halves and quarters find around it
+pub fraction_found : (effort : ℕ) (input reference : Plane) (x y : ℕ) (centre : Mv) (n : ℕ) (mv full : Mv) → 2 ≤ effort →
+    full ≡ times 4 (least_around (full_score input reference (x + left_of n) (y + top_of n) (side_of n)) 8 1 centre) →
+    mv ≡ least_around (fractional_score input reference (x + left_of n) (y + top_of n) (side_of n)) 1 1
+    (least_around (fractional_score input reference (x + left_of n) (y + top_of n) (side_of n)) 1 2 full) →
+    mv ≡ node_found effort input reference centre x y n
+fraction_found effort input reference x y centre n mv full more shown is =
+    let f : Score = fractional_score input reference (x + left_of n) (y + top_of n) (side_of n) in
+    let whole : Mv = times 4 (least_around (full_score input reference (x + left_of n) (y + top_of n) (side_of n)) 8 1 centre) in
+    is ∙ ap (λ v. least_around f 1 1 (least_around f 1 2 v)) shown ∙
+    sym (ap (λ b. cond b whole (least_around f 1 1 (least_around f 1 2 whole))) (lt_not_below effort 2 more))
+
+-- near to the vector of the coarse stage
+pub whole_near : (input reference : Plane) (x y : ℕ) (centre : Mv) (keys : List ℕ) (n : ℕ) (mv : Mv) →
+    ShowFull input reference x y centre keys → n < 85 → IsInside input x y n →
+    mv ≡ times 4 (full_candidate centre (get_or keys n 0 % 512)) → IsNear 32 (times 4 centre) mv
+whole_near input reference x y centre keys n mv shows below inside is =
+    subst (IsNear 32 (times 4 centre)) (sym is)
+    (full_near (full_score input reference (x + left_of n) (y + top_of n) (side_of n)) centre
+    (full_candidate centre (get_or keys n 0 % 512)) (sym (shows n below inside)))
+
+-- ---- a node by its number
+
+pub part_is : (field : Field) (part : Part) (n : ℕ) → part.side ≡ side_of n → part.left ≡ left_of n → part.top ≡ top_of n →
+    part_score field part ≡ node_score field n
+part_is field part n side left top =
+    ap₂ (λ a b. fractional_score field.input.now field.reference.now (field.x + a) (field.y + b) part.side) left top ∙
+    ap (fractional_score field.input.now field.reference.now (field.x + left_of n) (field.y + top_of n)) side
 
 -- ---- the coarse stage of a node is that of its block
 

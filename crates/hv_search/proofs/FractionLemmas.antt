@@ -20,6 +20,7 @@ use Rattle.hv_inter_model.specs.Interpolation.{inter_sample, inter_predicted}
 use Rattle.hv_search_model.specs.MotionSearch.{vector, moved, around, Score, least_around, absolute_differences, node_area, fractional_score}
 use Rattle.hv_search_model.specs.MotionLaws.{IsWithin}
 use Rattle.hv_search.specs.declared.scored.Scored.{Scored}
+use Rattle.hv_search.specs.Plain.{whole_place}
 use Rattle.hv_search.specs.Fraction.{around_place, IsBestOf, IsBestOfNine, IsLeastAround}
 use Rattle.hv_search.proofs.FullLemmas.{sad_of_runs, total_of_rows}
 
@@ -86,9 +87,13 @@ fractional_sum_is input reference mv x y side first second w columns rows stride
 
 -- ---- the best of nine
 
-around_1 : (step : ℕ) (mv : Mv) → around 1 step mv ≡ tabulate 9 (λ t. moved mv (pos (step * (t % 3)) -ℤ pos (step * 1)) (pos (step * (t / 3)) -ℤ pos (step * 1)))
+pub around_1 : (step : ℕ) (mv : Mv) → around 1 step mv ≡ tabulate 9 (λ t. moved mv (pos (step * (t % 3)) -ℤ pos (step * 1)) (pos (step * (t / 3)) -ℤ pos (step * 1)))
 unfolding tabulate
 around_1 step mv = refl
+
+pub around_8 : (mv : Mv) → around 8 1 mv ≡ tabulate 289 (whole_place 8 mv)
+unfolding tabulate
+around_8 mv = refl
 
 pub best_of_one : (score : Score) (place : ℕ → Mv) (centre : Mv) (best : Scored) → best.mv ≡ centre → best.sum ≡ score centre →
     IsBestOf score centre place 0 best

@@ -10,7 +10,7 @@ mod FullLemmas
 mod CoarseLemmas
 mod QuarterLemmas
 mod FractionLemmas
-mod HalfLemmas
+mod FieldLemmas
 mod BlockLemmas
 mod VectorLemmas
 mod MotionLemmas

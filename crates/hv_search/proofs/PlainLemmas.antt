@@ -14,6 +14,7 @@ use Rattle.hv_lemmas.proofs.ComparisonLemmas.{lt_below, lt_not_below, other_than
 use Rattle.hv_search.specs.declared.scored.Scored.{Scored}
 use Rattle.hv_search.specs.Fraction.{IsBestOf}
 use Rattle.hv_search.specs.Plain.{area_score, whole_place}
+use Rattle.hv_search.proofs.FractionLemmas.{around_8}
 use Rattle.hv_search.proofs.WindowLemmas.{came}
 
 -- a coordinate to which a component leads
@@ -23,10 +24,6 @@ led_to corner place component near is = ap (λ z. z +ℤ pos 0) (came corner _ n
   where
     plain : (z : ℤ) → (z -ℤ pos 0) +ℤ pos 0 ≡ z
     plain z = omega (arith, ints)
-
-around_8 : (mv : Mv) → around 8 1 mv ≡ tabulate 289 (whole_place 8 mv)
-unfolding tabulate
-around_8 mv = refl
 
 around_16 : (mv : Mv) → around 16 1 mv ≡ tabulate 1089 (whole_place 16 mv)
 unfolding tabulate

@@ -3,6 +3,7 @@ pub mod Numbers
 pub mod Windows
 pub mod Coarse
 pub mod Fraction
+pub mod Field
 pub mod Vectors
 pub mod Motion
 pub mod Searched

@@ -1,15 +1,16 @@
 //! The vectors of the nodes of a coding tree block.
-ghost use Rattle.std.specs.Prelude.{◌≡◌, ◌+◌, ◌*◌, ◌/◌, ◌%◌, ◌^◌, ◌<◌, ◌≤◌, cond, nat_lt, length};
-ghost use Rattle.hv_search_model.specs.MotionSearch.{times, least_around, fractional_score};
+ghost use Rattle.std.specs.Prelude.{◌≡◌, ℕ, ◌+◌, ◌*◌, ◌/◌, ◌%◌, ◌^◌, ◌<◌, ◌≤◌, length, slice_index, slice_index_or};
+ghost use Rattle.hv_search_model.specs.MotionSearch.{times, least_around};
 ghost use Rattle.hv_search_model.specs.MotionLaws.{IsWithin};
 ghost use Rattle.hv_search.specs.Nodes.{place_of};
-ghost use Rattle.hv_search.specs.Numbers.{left_of, top_of, side_of, IsInside, full_candidate, AreFound};
+ghost use Rattle.hv_search.specs.Numbers.{IsInside, full_candidate, no_vector, AreFound};
+ghost use Rattle.hv_search.specs.Field.{IsNear, node_score};
 
+use crate::field::{Field, put_field};
 use crate::fraction::{quarter_vector, shifted};
 use crate::full::full_keys;
 use crate::nodes::NODES;
 use crate::number::part_of;
-use crate::square::Square;
 use crate::window::grid_of;
 use hv_plan::Mv;
 use hv_types::Plane;
@@ -50,46 +51,58 @@ pub(crate) fn quadrupled(mv: Mv) -> Mv
     }
 }
 
-/// The vector of node `n` of the block that begins in column `x` of row `y`, in quarters of a
-/// sample, from that of the full stage. That of a node that crosses an edge is any.
-fn finished_vector(
-    effort: u8,
-    input: &Plane,
-    reference: &Plane,
-    x: u32,
-    y: u32,
-    n: usize,
-    full: Mv,
-) -> Mv
-    requires number { n < 85 }
-    requires x { x < 2 ^ 31 }
-    requires y { y < 2 ^ 31 }
-    requires near { IsWithin 600 full }
-    requires short { IsInside input.now x y n → IsWithin 72 full }
-    ensures { IsInside input.now x y n → result ≡ cond (nat_lt effort 2) (times 4 full)
-        (least_around (fractional_score input.now reference.now (x + left_of n) (y + top_of n)
-        (side_of n)) 1 1
-        (least_around (fractional_score input.now reference.now (x + left_of n) (y + top_of n)
-        (side_of n)) 1 2 (times 4 full))) }
+/// The vectors of the full stage, in quarters of a sample, from the keys of the nodes.
+fn put_whole(centre: Mv, keys: &[u32; NODES], vectors: &mut [Mv])
+    requires near { IsWithin 64 centre }
+    requires room { length vectors.old ≡ 85 }
+    ensures count { length vectors.new ≡ 85 }
+    ensures each { (n : ℕ) → n < 85 → slice_index_or vectors.new n no_vector ≡
+        times 4 (full_candidate centre (slice_index keys.now n % 512)) }
 {
-    let whole = quadrupled(full);
+    for n in 0..NODES {
+        vectors[n] = quadrupled(shown_vector(centre, keys[n]));
+    }
+}
+
+/// The vector of node `n` of a block, in quarters of a sample, from that of the full stage. That of
+/// a node that crosses an edge is any.
+fn finished_vector(field: Field, n: usize, whole: Mv) -> Mv
+    requires number { n < 85 }
+    requires near { IsInside field.input.now field.x field.y n →
+        IsNear 32 (times 4 field.centre) whole }
+    ensures { IsInside field.entry.input.now field.entry.x field.entry.y n → result ≡
+        least_around (node_score field.entry n) 1 1
+        (least_around (node_score field.entry n) 1 2 whole) }
+{
     let part = part_of(n);
-    let x = x + u32::from(part.left);
-    let y = y + u32::from(part.top);
-    let side = u32::from(part.side);
-    if effort < 2 || x + side > input.width() || y + side > input.height() {
+    let right = field.x + u32::from(part.left) + u32::from(part.side);
+    let bottom = field.y + u32::from(part.top) + u32::from(part.side);
+    if right > field.input.width() || bottom > field.input.height() {
         return whole;
     }
-    let square = Square {
-        x,
-        y,
-        side: part.side,
-    };
-    quarter_vector(input, reference, square, whole)
+    quarter_vector(field, part, whole)
+}
+
+/// Takes the vectors of the nodes of a block from the full stage to quarters of a sample.
+fn finish(field: Field, vectors: &mut [Mv])
+    requires room { length vectors.old ≡ 85 }
+    requires near { (n : ℕ) → n < 85 → IsInside field.input.now field.x field.y n →
+        IsNear 32 (times 4 field.centre) (slice_index_or vectors.old n no_vector) }
+    ensures count { length vectors.new ≡ 85 }
+    ensures each { (n : ℕ) → n < 85 →
+        IsInside field.entry.input.now field.entry.x field.entry.y n →
+        slice_index_or vectors.new n no_vector ≡
+        least_around (node_score field.entry n) 1 1 (least_around (node_score field.entry n) 1 2
+        (slice_index_or vectors.old n no_vector)) }
+{
+    for n in 0..NODES {
+        vectors[n] = finished_vector(field, n, vectors[n]);
+    }
 }
 
 /// Puts the vectors of the nodes of the block that begins in column `x` of row `y`, in quarters of
-/// a sample, from that of the coarse stage.
+/// a sample, from that of the coarse stage. From effort 2 on there is room for the samples of a
+/// field.
 pub(crate) fn put_block(
     effort: u8,
     input: &Plane,
@@ -97,19 +110,32 @@ pub(crate) fn put_block(
     coarse: Mv,
     x: u32,
     y: u32,
+    samples: &mut [u8],
     vectors: &mut [Mv],
 )
     requires x { x < 2 ^ 31 }
     requires y { y < 2 ^ 31 }
     requires near { IsWithin 16 coarse }
+    requires samples { 2 ≤ effort → length samples.old ≡ 124416 }
     requires room { length vectors.old ≡ 85 }
+    ensures samples { length samples.new ≡ length samples.old }
     ensures count { length vectors.new ≡ 85 }
     ensures found { AreFound effort input.now reference.now (times 4 coarse) x y 85 vectors.new }
 {
     let centre = quadrupled(coarse);
     let keys = full_keys(grid_of(input), grid_of(reference), x, y, centre);
-    for n in 0..NODES {
-        let full = shown_vector(centre, keys[n]);
-        vectors[n] = finished_vector(effort, input, reference, x, y, n, full);
+    put_whole(centre, &keys, vectors);
+    if effort < 2 {
+        return;
     }
+    put_field(reference, x, y, centre, samples);
+    let field = Field {
+        input,
+        reference,
+        x,
+        y,
+        centre,
+        samples,
+    };
+    finish(field, vectors);
 }

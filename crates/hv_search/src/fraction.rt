@@ -1,19 +1,18 @@
 //! The stages of halves and quarters of a sample, for a node.
-ghost use Rattle.std.specs.Prelude.{◌≡◌, ◌+◌, ◌*◌, ◌<◌, ◌≤◌, Bool, nat_eq, ◌||◌, length, pos, ◌+ℤ◌, ◌-ℤ◌, true};
+ghost use Rattle.std.specs.Prelude.{◌≡◌, ◌+◌, ◌-◌, ◌*◌, ◌/◌, ◌%◌, ◌<◌, ◌≤◌, Bool, nat_eq, ◌||◌, length, drop, pos, ◌+ℤ◌, ◌-ℤ◌, ◌*ℤ◌, true};
 ghost use Rattle.std.specs.Int.RustNames.{unsigned_abs};
 ghost use Rattle.hv_kernel.specs.Blocks.{sad_of_blocks};
-ghost use Rattle.hv_inter_model.specs.Interpolation.{inter_predicted};
-ghost use Rattle.hv_search_model.specs.MotionSearch.{Score, moved, least_around, fractional_score};
+ghost use Rattle.hv_search_model.specs.MotionSearch.{Score, moved, times, least_around};
 ghost use Rattle.hv_search_model.specs.MotionLaws.{IsWithin};
-ghost use Rattle.hv_search.specs.Fraction.{around_place, AreScores, IsLeastAround};
+ghost use Rattle.hv_search.specs.Fraction.{AreScores, IsLeastAround};
+ghost use Rattle.hv_search.specs.Field.{IsNear, part_score};
 
-use crate::halves::half_sums;
+use crate::field::Field;
+use crate::part::Part;
 use crate::scored::{Scored, better};
-use crate::square::Square;
-use hv_interp::predict_inter;
 use hv_kernel::{Pair, sad_block_8, sad_block_16, sad_block_32, sad_block_64};
 use hv_plan::Mv;
-use hv_types::{Plane, Window};
+use hv_types::Window;
 
 /// The sum of absolute differences of two blocks of 8, 16, 32 or 64 columns.
 #[inline(always)]
@@ -28,40 +27,6 @@ pub(crate) fn sad_of_pair(blocks: Pair, side: u8) -> u32
         32 => sad_block_32(blocks),
         _ => sad_block_64(blocks),
     }
-}
-
-/// A square by rows as a block of a plane.
-#[inline(always)]
-fn window_of(samples: &[u8], side: usize) -> Window<'_>
-    requires { length samples.now ≡ side * side }
-    ensures samples { result.samples.now ≡ samples.now }
-    ensures stride { result.stride ≡ side }
-    ensures columns { result.columns ≡ side }
-    ensures rows { result.rows ≡ side }
-{
-    Window {
-        samples,
-        stride: side,
-        columns: side,
-        rows: side,
-    }
-}
-
-/// The score of a vector for a node that lies wholly inside of the input.
-pub(crate) fn fractional_sum(input: &Plane, reference: &Plane, square: Square, mv: Mv) -> u32
-    requires across { square.x + square.side ≤ input.now.width }
-    requires down { square.y + square.side ≤ input.now.height }
-    ensures { result ≡
-        fractional_score input.now reference.now square.x square.y square.side mv }
-{
-    let Square { x, y, side } = square;
-    let mut samples = [0; 4096];
-    let columns = usize::from(side);
-    let predicted = &mut samples[..columns * columns];
-    predict_inter(reference, true, x, y, side, mv, predicted);
-    let first = input.window(x, y, u32::from(side), u32::from(side));
-    let second = window_of(predicted, columns);
-    sad_of_pair(Pair { first, second }, side)
 }
 
 /// A component of a vector, so much more and so much less.
@@ -90,37 +55,71 @@ pub(crate) fn candidate(centre: Mv, step: u8, right: u8, down: u8) -> Mv
     }
 }
 
-/// The score of place `t` of the stage of quarters, by rows, around a vector whose score is known.
-fn quarter_sum(input: &Plane, reference: &Plane, square: Square, half: Scored, t: u8) -> u64
-    requires across { square.x + square.side ≤ input.now.width }
-    requires down { square.y + square.side ≤ input.now.height }
-    requires near { IsWithin 30000 half.mv }
-    requires known { half.sum ≡
-        fractional_score input.now reference.now square.x square.y square.side half.mv }
-    requires place { t < 9 }
-    ensures { result ≡ fractional_score input.now reference.now square.x square.y square.side
-        (around_place 1 half.mv t) }
+/// How many quarters of a sample a component leads further than that of nine samples less than
+/// another one, which is in whole samples.
+#[inline(always)]
+fn ahead(component: i16, centre: i16) -> u8
+    requires short { unsigned_abs centre ≤ 64 }
+    requires near { unsigned_abs (component -ℤ (pos 4 *ℤ centre)) ≤ 35 }
+    ensures value { component ≡ (pos 4 *ℤ (centre -ℤ pos 9)) +ℤ pos result }
+    ensures most { result < 72 }
 {
-    if t == 4 {
-        return half.sum;
-    }
-    let mv = candidate(half.mv, 1, t % 3, t / 3);
-    u64::from(fractional_sum(input, reference, square, mv))
+    (component - 4 * centre + 36) as u8
 }
 
-/// The scores of the stage of quarters of a sample, by rows, around a vector whose score is known.
-fn quarter_sums(input: &Plane, reference: &Plane, square: Square, half: Scored) -> [u64; 9]
-    requires across { square.x + square.side ≤ input.now.width }
-    requires down { square.y + square.side ≤ input.now.height }
-    requires near { IsWithin 30000 half.mv }
-    requires known { half.sum ≡
-        fractional_score input.now reference.now square.x square.y square.side half.mv }
-    ensures { AreScores (fractional_score input.now reference.now square.x square.y square.side)
-        1 half.mv 9 result }
+/// What a field has for a node, so many quarters of a sample further right and down than from its
+/// first samples on.
+#[inline(always)]
+fn window_at<'a>(field: Field<'a>, part: Part, right: u8, down: u8) -> Window<'a>
+    requires right { right < 72 }
+    requires down { down < 72 }
+    ensures samples { result.samples.now ≡ drop (31104 * (right % 4) + 7776 * (down % 4) +
+        ((part.top + down / 4) * 96 + (part.left + right / 4))) field.entry.samples.now }
+    ensures stride { result.stride ≡ 96 }
+    ensures columns { result.columns ≡ part.side }
+    ensures rows { result.rows ≡ part.side }
+{
+    let first = 31104 * usize::from(right % 4) + 7776 * usize::from(down % 4);
+    let column = usize::from(part.left + right / 4);
+    let row = usize::from(part.top + down / 4);
+    let side = usize::from(part.side);
+    Window {
+        samples: &field.samples[first + (row * 96 + column)..],
+        stride: 96,
+        columns: side,
+        rows: side,
+    }
+}
+
+/// The score of a vector for a node that lies wholly inside of the input.
+fn sum_at(field: Field, part: Part, mv: Mv) -> u32
+    requires across { field.x + part.left + part.side ≤ field.input.now.width }
+    requires down { field.y + part.top + part.side ≤ field.input.now.height }
+    requires near { IsNear 35 (times 4 field.centre) mv }
+    ensures { result ≡ part_score field.entry part mv }
+{
+    let x = field.x + u32::from(part.left);
+    let y = field.y + u32::from(part.top);
+    let side = u32::from(part.side);
+    let first = field.input.window(x, y, side, side);
+    let right = ahead(mv.x, field.centre.x);
+    let down = ahead(mv.y, field.centre.y);
+    let second = window_at(field, part, right, down);
+    sad_of_pair(Pair { first, second }, part.side)
+}
+
+/// The scores of a vector and the eight that lie a step around it, by rows.
+fn nine_sums(field: Field, part: Part, centre: Mv, step: u8) -> [u64; 9]
+    requires across { field.x + part.left + part.side ≤ field.input.now.width }
+    requires down { field.y + part.top + part.side ≤ field.input.now.height }
+    requires step { step ≤ 2 }
+    requires near { IsNear (35 - step) (times 4 field.centre) centre }
+    ensures { AreScores (part_score field.entry part) step centre 9 result }
 {
     let mut sums = [0; 9];
     for t in 0..9u8 {
-        sums[usize::from(t)] = quarter_sum(input, reference, square, half, t);
+        let mv = candidate(centre, step, t % 3, t / 3);
+        sums[usize::from(t)] = u64::from(sum_at(field, part, mv));
     }
     sums
 }
@@ -147,17 +146,15 @@ pub(crate) fn least_of_nine(sums: &[u64; 9], centre: Mv, step: u8) -> Scored
 
 /// The vector of the stages of halves and quarters around a vector in whole samples, all in
 /// quarters of a sample.
-pub(crate) fn quarter_vector(input: &Plane, reference: &Plane, square: Square, whole: Mv) -> Mv
-    requires across { square.x + square.side ≤ input.now.width }
-    requires down { square.y + square.side ≤ input.now.height }
-    requires near { IsWithin 288 whole }
-    ensures { result ≡ least_around
-        (fractional_score input.now reference.now square.x square.y square.side) 1 1
-        (least_around
-        (fractional_score input.now reference.now square.x square.y square.side) 1 2 whole) }
+pub(crate) fn quarter_vector(field: Field, part: Part, whole: Mv) -> Mv
+    requires across { field.x + part.left + part.side ≤ field.input.now.width }
+    requires down { field.y + part.top + part.side ≤ field.input.now.height }
+    requires near { IsNear 32 (times 4 field.centre) whole }
+    ensures { result ≡ least_around (part_score field.entry part) 1 1
+        (least_around (part_score field.entry part) 1 2 whole) }
 {
-    let sums = half_sums(input, reference, square, whole);
-    let half = least_of_nine(&sums, whole, 2);
-    let sums = quarter_sums(input, reference, square, half);
-    least_of_nine(&sums, half.mv, 1).mv
+    let sums = nine_sums(field, part, whole, 2);
+    let half = least_of_nine(&sums, whole, 2).mv;
+    let sums = nine_sums(field, part, half, 1);
+    least_of_nine(&sums, half, 1).mv
 }

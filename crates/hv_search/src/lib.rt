@@ -5,10 +5,10 @@
 mod best;
 mod block;
 mod coarse;
+mod field;
 mod fraction;
 mod full;
 mod grid;
-mod halves;
 mod lanes;
 mod motion;
 mod nodes;
@@ -20,6 +20,7 @@ mod plain;
 mod quarter;
 mod scored;
 mod source;
+#[cfg(test)]
 mod square;
 #[cfg(test)]
 mod tests;

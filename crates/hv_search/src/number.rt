@@ -1,5 +1,5 @@
 //! The nodes of a block by their numbers.
-ghost use Rattle.std.specs.Prelude.{◌≡◌, ◌*◌, ◌<◌, ◌≤◌, Bool, true, nat_eq, ◌||◌};
+ghost use Rattle.std.specs.Prelude.{◌≡◌, ◌+◌, ◌*◌, ◌<◌, ◌≤◌, Bool, true, nat_eq, ◌||◌};
 ghost use Rattle.hv_search.specs.Numbers.{side_of, left_of, top_of};
 ghost use Rattle.hv_search.specs.Nodes.{column_at, row_at};
 
@@ -11,6 +11,8 @@ use crate::part::Part;
 fn part_at(place: usize, side: u8) -> Part
     requires place { place < 64 }
     requires sized { (nat_eq side 8 || nat_eq side 16 || nat_eq side 32 || nat_eq side 64) ≡ true }
+    requires across { 8 * column_at place + side ≤ 64 }
+    requires down { 8 * row_at place + side ≤ 64 }
     ensures side { result.side ≡ side }
     ensures left { result.left ≡ 8 * column_at place }
     ensures top { result.top ≡ 8 * row_at place }

@@ -1,6 +1,6 @@
 //! Motion search without any shortcut, for tests: each vector of the definition is tried, and each
 //! score is a sum over samples.
-ghost use Rattle.std.specs.Prelude.{◌≡◌, ◌+◌, ◌*◌, ◌<◌, ◌≤◌, pos, ◌-ℤ◌};
+ghost use Rattle.std.specs.Prelude.{◌≡◌, ◌+◌, ◌*◌, ◌<◌, ◌≤◌, length, pos, ◌-ℤ◌};
 ghost use mathlib.Core.Logic.{◌⊎◌};
 ghost use Rattle.hv_sample_model.specs.Blocks.{total_of};
 ghost use Rattle.hv_search_model.specs.MotionSearch.{moved, least_around, fractional_score, scores_of, best_vector, node_vector};
@@ -10,14 +10,16 @@ ghost use Rattle.hv_search.specs.Fraction.{AreScores};
 ghost use Rattle.hv_search.specs.Plain.{area_score, gap_of};
 
 use crate::block::quadrupled;
-use crate::fraction::{candidate, fractional_sum, least_of_nine, shifted};
+use crate::fraction::{candidate, least_of_nine, sad_of_pair, shifted};
 use crate::grid::Grid;
 use crate::scored::{Scored, better};
 use crate::source::Source;
 use crate::square::Square;
 use crate::window::{corner, grid_of, place_near, quarter_of};
+use hv_interp::predict_inter;
+use hv_kernel::Pair;
 use hv_plan::Mv;
-use hv_types::Plane;
+use hv_types::{Plane, Window};
 
 /// How far the sample in column `x` of row `y` is from the one to which a vector leads.
 fn gap(input: Grid, reference: Grid, x: u32, y: u32, mv: Mv) -> u64
@@ -106,6 +108,40 @@ fn least_whole(
         best = better(best, Scored { sum, mv });
     }
     best.mv
+}
+
+/// A square by rows as a block of a plane.
+#[inline(always)]
+fn window_of(samples: &[u8], side: usize) -> Window<'_>
+    requires { length samples.now ≡ side * side }
+    ensures samples { result.samples.now ≡ samples.now }
+    ensures stride { result.stride ≡ side }
+    ensures columns { result.columns ≡ side }
+    ensures rows { result.rows ≡ side }
+{
+    Window {
+        samples,
+        stride: side,
+        columns: side,
+        rows: side,
+    }
+}
+
+/// The score of a vector for a node that lies wholly inside of the input.
+fn fractional_sum(input: &Plane, reference: &Plane, square: Square, mv: Mv) -> u32
+    requires across { square.x + square.side ≤ input.now.width }
+    requires down { square.y + square.side ≤ input.now.height }
+    ensures { result ≡
+        fractional_score input.now reference.now square.x square.y square.side mv }
+{
+    let Square { x, y, side } = square;
+    let mut samples = [0; 4096];
+    let columns = usize::from(side);
+    let predicted = &mut samples[..columns * columns];
+    predict_inter(reference, true, x, y, side, mv, predicted);
+    let first = input.window(x, y, u32::from(side), u32::from(side));
+    let second = window_of(predicted, columns);
+    sad_of_pair(Pair { first, second }, side)
 }
 
 /// The scores of a vector and of the eight that lie a step around it, each of a prediction of its

@@ -48,7 +48,7 @@ pub(crate) fn corner(place: u32, component: i16, before: u8) -> i64
 #[inline(always)]
 pub(crate) fn place_near(coordinate: i64, ahead: usize, side: u32) -> usize
     requires near { unsigned_abs coordinate ≤ 8589934592 }
-    requires most { ahead ≤ 79 }
+    requires most { ahead ≤ 103 }
     requires some { 0 < side }
     ensures value { result ≡ nearest side (coordinate +ℤ pos ahead) }
     ensures inside { result < side }
@@ -60,7 +60,7 @@ pub(crate) fn place_near(coordinate: i64, ahead: usize, side: u32) -> usize
 #[inline(always)]
 fn lies_inside(x: i64, count: usize, width: u32) -> bool
     requires near { unsigned_abs x ≤ 8589934592 }
-    requires most { count ≤ 80 }
+    requires most { count ≤ 104 }
     ensures from { result ≡ true → x ≡ pos (unsigned_abs x) }
     ensures to { result ≡ true → unsigned_abs x + count ≤ width }
 {
@@ -85,7 +85,7 @@ fn copy_row(grid: Grid, column: usize, row: usize, out: &mut [u8])
 fn put_near(grid: Grid, x: i64, row: usize, out: &mut [u8])
     requires near { unsigned_abs x ≤ 8589934592 }
     requires down { row < grid.height }
-    requires most { length out.old ≤ 80 }
+    requires most { length out.old ≤ 104 }
     ensures count { length out.new ≡ length out.old }
     ensures each { (i : ℕ) → i < length out.old → slice_index_or out.new i 0 ≡
         sample_at (plane_of_grid grid.entry) (nearest grid.entry.width (x +ℤ pos i)) row }
@@ -102,7 +102,7 @@ fn put_near(grid: Grid, x: i64, row: usize, out: &mut [u8])
 fn put_row(grid: Grid, x: i64, row: usize, out: &mut [u8])
     requires near { unsigned_abs x ≤ 8589934592 }
     requires down { row < grid.height }
-    requires most { length out.old ≤ 80 }
+    requires most { length out.old ≤ 104 }
     ensures count { length out.new ≡ length out.old }
     ensures each { (i : ℕ) → i < length out.old → slice_index_or out.new i 0 ≡
         sample_at (plane_of_grid grid.entry) (nearest grid.entry.width (x +ℤ pos i)) row }
@@ -114,11 +114,11 @@ fn put_row(grid: Grid, x: i64, row: usize, out: &mut [u8])
     }
 }
 
-/// Fills a square of this side, 80 at most, with samples from column `x` of row `y` on.
+/// Fills a square of this side, 104 at most, with samples from column `x` of row `y` on.
 pub(crate) fn copy_window(grid: Grid, x: i64, y: i64, side: usize, out: &mut [u8])
     requires x { unsigned_abs x ≤ 8589934592 }
     requires y { unsigned_abs y ≤ 8589934592 }
-    requires most { side ≤ 80 }
+    requires most { side ≤ 104 }
     requires room { length out.old ≡ side * side }
     ensures count { length out.new ≡ side * side }
     ensures shows { Shows (plane_of_grid grid.entry) x y side out.new }

@@ -35,6 +35,6 @@ returns c =
       each = motion_is group c.args.picture luma _ there
           (no_third group c.args.picture (omega (arith, c.requires)) (omega (arith, c.count-pictures.ensures.value, c.count-pictures.ensures.most)) few c.requires)
           c.width-width.ensures.value c.height-height.ensures.value (omega (arith, effort_is, c.if-effort-eq0.false))
-          (searched_as group luma _ _ _ _ _ effort_is (c.first-first.ensures ∙ ap₂ (λ n l. slice_get (coded_of n l c.args.picture).references 0) c.args.group.now.count c.args.group.now.levels) c.in_ok-searched.ensures)
-          (searched_as group luma _ _ _ _ _ effort_is (c.second-second.ensures ∙ ap₂ (λ n l. slice_get (coded_of n l c.args.picture).references 1) c.args.group.now.count c.args.group.now.levels) c.in_ok-searched-2.ensures);
+          (searched_as group luma _ _ _ _ _ effort_is (c.first-first.ensures ∙ ap₂ (λ n l. slice_get (coded_of n l c.args.picture).references 0) c.args.group.now.count c.args.group.now.levels) c.in_ok-searched.ensures.is)
+          (searched_as group luma _ _ _ _ _ effort_is (c.second-second.ensures ∙ ap₂ (λ n l. slice_get (coded_of n l c.args.picture).references 1) c.args.group.now.count c.args.group.now.levels) c.in_ok-searched-2.ensures.is);
     }

@@ -10,8 +10,8 @@ pub put_block-requires-clause-near : goal.put_block-requires-clause-near
 put_block-requires-clause-near c =
     coarse_within (block_score (plane_of_grid c.quarter_of.result) (plane_of_grid c.quarter_of-2.result) (64 * c.args.column / 4) (64 * c.args.row / 4)) c.coarse_vector-coarse.result c.coarse_vector-coarse.ensures
 
-pub returns : goal.returns
-returns c = λ n below inside.
+pub returns-clause-has : goal.returns-clause-has
+returns-clause-has c = λ n below inside.
     c.put_block.ensures.found n below inside ∙
     node_found_is c.args.effort c.args.input.luma.now c.args.reference.luma.now c.args.column c.args.row n c.coarse_vector-coarse.result below
     (c.coarse_vector-coarse.ensures ∙

@@ -1,7 +1,7 @@
 use Rattle.std.proofs.Common.{◌∙◌, arith}
 use Rattle.hv_types.specs.declared.window.Window.{Window}
 use Rattle.hv_search.proofs.FractionLemmas.{fractional_sum_is}
-use Rattle.hv_search.proofs.fraction.fractional_sum.Goals as goal
+use Rattle.hv_search.proofs.plain.fractional_sum.Goals as goal
 
 pub returns : goal.returns
 returns c =

@@ -9,6 +9,7 @@ use Rattle.hv_plan.specs.declared.prediction.Mv.{Mv}
 use Rattle.hv_filter_model.specs.Costs.{first_least}
 use Rattle.hv_search_model.specs.MotionSearch.{vector, times, around, Score, Scores, least_around, coarse_score, full_score, quarter_size, whole_vector, quarter_vector, best_vector, scores_of, node_vector}
 use Rattle.hv_search_model.specs.MotionLaws.{IsWithin}
+use Rattle.hv_search_model.proofs.ReachLemmas.{least_around_within}
 use Rattle.hv_types.specs.Samples.{Plane}
 use Rattle.hv_lemmas.proofs.ComparisonLemmas.{lt_below, lt_not_below, other_than_0}
 use Rattle.hv_search.specs.declared.scored.Scored.{Scored}
@@ -43,6 +44,10 @@ best_of_whole score reach mv t best sized all is =
     ap (first_least score mv) (around_whole reach mv sized)
 
 -- ---- the stages
+
+-- a vector of the full stage
+pub shown_within : (score : Score) (centre full : Mv) → IsWithin 64 centre → full ≡ least_around score 8 1 centre → IsWithin 72 full
+shown_within score centre full h is = subst (IsWithin 72) (sym is) (least_around_within score 64 8 1 centre h)
 
 pub coarse_is : (input reference P Q : Plane) (x y columns rows : ℕ) → P ≡ quarter_size input → Q ≡ quarter_size reference →
     columns ≡ min 16 (P.width - 16 * (x / 64)) → rows ≡ min 16 (P.height - 16 * (y / 64)) →

@@ -6,10 +6,10 @@ use Rattle.hv_search_model.specs.MotionLaws.{IsWithin}
 use Rattle.hv_search_model.proofs.ReachLemmas.{least_around_within}
 use Rattle.hv_search.specs.Windows.{plane_of_grid}
 use Rattle.hv_search.specs.Fraction.{IsLeastAround}
-use Rattle.hv_search.proofs.BlockLemmas.{times_4_within, shown_within}
+use Rattle.hv_search.proofs.BlockLemmas.{times_4_within}
 use Rattle.hv_search.proofs.VectorLemmas.{coarse_within}
 use Rattle.hv_search.proofs.FractionLemmas.{longer}
-use Rattle.hv_search.proofs.PlainLemmas.{coarse_is, full_is, whole_within, best_low, best_high}
+use Rattle.hv_search.proofs.PlainLemmas.{coarse_is, full_is, shown_within, whole_within, best_low, best_high}
 use Rattle.hv_search.proofs.plain.best_vector.Goals as goal
 
 module _ (input reference : Plane) (x y side : ℕ) (coarse full whole : Mv)

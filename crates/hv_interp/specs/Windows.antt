@@ -1,9 +1,15 @@
 -- Windows onto a reference: its samples from a place on, by rows, where coordinates outside stand
 -- for the nearest inside.
-use Rattle.std.specs.Prelude.{◌≡◌, ℕ, ◌+◌, ◌*◌, ◌<◌, List, slice_index_or, ℤ, pos, ◌+ℤ◌}
+use Rattle.std.specs.Prelude.{◌≡◌, ℕ, ◌+◌, ◌-◌, ◌*◌, ◌<◌, List, slice_index_or, ℤ, pos, ◌+ℤ◌}
+use Rattle.std.specs.Int.RustNames.{unsigned_abs}
+use Rattle.hv_lemmas.specs.Clipping.{clip3}
 use Rattle.hv_types.specs.Samples.{Plane}
 use Rattle.hv_types.specs.Windows.{HoldsBlock}
 use Rattle.hv_inter_model.specs.Interpolation.{reference_sample}
+
+-- the coordinate inside a side that is nearest to another
+abbrev pub nearest_in : ℕ → ℤ → ℕ
+nearest_in side z = unsigned_abs (clip3 (pos 0) (pos (side - 1)) z)
 
 -- the sample in column i of row j
 abbrev pub sample_of : List ℕ → ℕ → ℕ → ℕ → ℤ

@@ -1,5 +1,5 @@
 //! Inter prediction of a block (8.5.3.3.3, 8.5.3.3.4.2).
-ghost use Rattle.std.specs.Prelude.{Bool, true, ◌≡◌, ◌+◌, ◌-◌, ◌*◌, ◌/◌, ◌%◌, ◌^◌, ◌<◌, ◌≤◌, length, pos, ◌+ℤ◌, ◌-ℤ◌};
+ghost use Rattle.std.specs.Prelude.{◌≡◌, ◌+◌, ◌-◌, ◌*◌, ◌/◌, ◌%◌, ◌^◌, ◌<◌, ◌≤◌, length, pos, ◌+ℤ◌, ◌-ℤ◌};
 ghost use Rattle.std.specs.Int.{int_shr, int_rem_euclid};
 ghost use Rattle.std.specs.Int.RustNames.{unsigned_abs};
 ghost use Rattle.hv_inter_model.specs.Interpolation.{inter_predicted};
@@ -8,7 +8,7 @@ ghost use Rattle.hv_interp.specs.Filters.{HasFirst, predicted, weight_of};
 
 use crate::interpolate::interpolate;
 use crate::taps::{chroma_taps, luma_taps};
-use crate::window::{STRIDE, copy_window};
+use crate::window::{copy_window, is_inside};
 use hv_plan::Mv;
 use hv_types::Plane;
 
@@ -34,20 +34,46 @@ fn start(place: u32, mv: i16, bits: u32, before: usize) -> i64
     i64::from(place) + i64::from(mv >> bits) - before as i64
 }
 
-/// Whether so many samples from a coordinate on lie inside a side.
-#[inline(always)]
-fn is_inside(coordinate: i64, count: usize, side: u32) -> bool
-    requires near { unsigned_abs coordinate ≤ 8589934592 }
-    requires most { count ≤ 71 }
-    ensures begins { result ≡ true → coordinate ≡ pos (unsigned_abs coordinate) }
-    ensures ends { result ≡ true → unsigned_abs coordinate + count ≤ side }
+/// Predicts a block of `size` columns and rows by a copy of its window, which begins in column `x`
+/// of row `y` of the reference, with room for the window.
+#[inline(never)]
+fn predict_by_copy_in<const T: usize, const ROOM: usize>(
+    reference: &Plane,
+    x: i64,
+    y: i64,
+    across: &[i8; T],
+    down: &[i8; T],
+    right: u8,
+    below: u8,
+    before: usize,
+    size: usize,
+    out: &mut [u8],
+)
+    requires before { 2 * before + 2 ≡ T }
+    requires most { T ≤ 8 }
+    requires across_light { weight_of across.now ≤ 112 }
+    requires down_light { weight_of down.now ≤ 112 }
+    requires x { unsigned_abs x ≤ 8589934592 }
+    requires y { unsigned_abs y ≤ 8589934592 }
+    requires size { size ≤ 64 }
+    requires enough { (size + T - 1) * (size + T - 1) ≤ ROOM }
+    requires room_most { ROOM ≤ 5041 }
+    requires room { length out.old ≡ size * size }
+    ensures { HasFirst 0 (size * size)
+        (predicted before right below across.now down.now (reference_from reference.now x y) size)
+        out.new }
 {
-    0 <= coordinate && coordinate + count as i64 <= i64::from(side)
+    let side = size + T - 1;
+    let mut room = [0; ROOM];
+    let window = &mut room[..side * side];
+    copy_window(reference, x, y, side, window);
+    interpolate(across, down, right, below, before, window, side, size, out);
 }
 
 /// Predicts a block of `size` columns and rows by a copy of its window, which begins in column `x`
 /// of row `y` of the reference.
-#[inline(never)]
+///
+/// Each size has a function with room of its own, so that no call clears more than its share.
 fn predict_by_copy<const T: usize>(
     reference: &Plane,
     x: i64,
@@ -72,12 +98,23 @@ fn predict_by_copy<const T: usize>(
         (predicted before right below across.now down.now (reference_from reference.now x y) size)
         out.new }
 {
-    let side = size + T - 1;
-    let mut window = [0; 5112];
-    copy_window(reference, x, y, side, side, &mut window);
-    interpolate(
-        across, down, right, below, before, &window, STRIDE, size, out,
-    );
+    if size <= 8 {
+        predict_by_copy_in::<T, 225>(
+            reference, x, y, across, down, right, below, before, size, out,
+        );
+    } else if size <= 16 {
+        predict_by_copy_in::<T, 529>(
+            reference, x, y, across, down, right, below, before, size, out,
+        );
+    } else if size <= 32 {
+        predict_by_copy_in::<T, 1521>(
+            reference, x, y, across, down, right, below, before, size, out,
+        );
+    } else {
+        predict_by_copy_in::<T, 5041>(
+            reference, x, y, across, down, right, below, before, size, out,
+        );
+    }
 }
 
 /// Predicts a block of `size` columns and rows, whose window begins in column `x` of row `y` of the

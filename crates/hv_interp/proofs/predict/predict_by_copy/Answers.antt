@@ -1,17 +1,29 @@
-use Rattle.std.proofs.Common.{◌∙◌, ◌+◌, ◌-◌, List, ℕ, subst, w64, to_z, of_z}
+use Rattle.std.proofs.Common.{◌∙◌, ap₂, w64}
 use Rattle.std.proofs.lemmas.Int.{to_z-of_z}
-use Rattle.hv_types.specs.Samples.{Plane}
-use Rattle.hv_interp.specs.Windows.{Shows}
-use Rattle.hv_interp.proofs.PredictionLemmas.{window_shows}
+use Rattle.hv_interp.specs.Windows.{reference_from}
+use Rattle.hv_interp.specs.Filters.{predicted}
 use Rattle.hv_interp.proofs.predict.predict_by_copy.Goals as goal
 
-pub returns : goal.returns
-returns g c k inside =
-    let p : Plane = c.args.reference.now in
-    let side : ℕ = c.args.size + g.row.T - 1 in
-    let window : List ℕ = c.copy_window.new.window in
-    c.interpolate.ensures k inside ∙
-    window_shows c.args.reference.now c.args.x c.args.y c.args.before c.args.right c.args.below g.row.T c.args.size k 72
-    c.args.across.now c.args.down.now window c.requires.before c.told-across c.told-down inside
-    (subst (λ x. Shows p x c.args.y side side window 72) (to_z-of_z w64 c.args.x c.ranges.x)
-    (subst (λ y. Shows p (to_z w64 (of_z w64 c.args.x)) y side side window 72) (to_z-of_z w64 c.args.y c.ranges.y) c.copy_window.ensures))
+pub returns-then-size-le8 : goal.returns-then-size-le8
+returns-then-size-le8 g c k inside =
+    c.predict_by_copy_in.ensures k inside ∙
+    ap₂ (λ x y. predicted c.args.before c.args.right c.args.below c.args.across.now c.args.down.now (reference_from c.args.reference.now x y) c.args.size k)
+    (to_z-of_z w64 c.args.x c.ranges.x) (to_z-of_z w64 c.args.y c.ranges.y)
+
+pub returns-then-size-le16 : goal.returns-then-size-le16
+returns-then-size-le16 g c k inside =
+    c.predict_by_copy_in-then-size-le16.ensures k inside ∙
+    ap₂ (λ x y. predicted c.args.before c.args.right c.args.below c.args.across.now c.args.down.now (reference_from c.args.reference.now x y) c.args.size k)
+    (to_z-of_z w64 c.args.x c.ranges.x) (to_z-of_z w64 c.args.y c.ranges.y)
+
+pub returns-then-size-le32 : goal.returns-then-size-le32
+returns-then-size-le32 g c k inside =
+    c.predict_by_copy_in-then-size-le32.ensures k inside ∙
+    ap₂ (λ x y. predicted c.args.before c.args.right c.args.below c.args.across.now c.args.down.now (reference_from c.args.reference.now x y) c.args.size k)
+    (to_z-of_z w64 c.args.x c.ranges.x) (to_z-of_z w64 c.args.y c.ranges.y)
+
+pub returns-else-size-le32 : goal.returns-else-size-le32
+returns-else-size-le32 g c k inside =
+    c.predict_by_copy_in-else-size-le32.ensures k inside ∙
+    ap₂ (λ x y. predicted c.args.before c.args.right c.args.below c.args.across.now c.args.down.now (reference_from c.args.reference.now x y) c.args.size k)
+    (to_z-of_z w64 c.args.x c.ranges.x) (to_z-of_z w64 c.args.y c.ranges.y)

@@ -1,11 +1,8 @@
-use Rattle.std.proofs.Common.{length, ◌≡◌, ◌<◌, ℕ}
-use Rattle.hv_interp.proofs.WindowLemmas.{IsCopied}
+use Rattle.std.proofs.Common.{pos, ◌+ℤ◌, ◌*◌, ◌%◌, ◌/◌}
+use Rattle.hv_interp.specs.Filters.{HasFirst}
+use Rattle.hv_interp.proofs.WindowLemmas.{nearest_sample}
 use Rattle.hv_interp.proofs.window.copy_window.Given as goal
 
 abbrev pub invariant-loop-j : goal.invariant-loop-j
-invariant-loop-j l = (length l.window ≡ 5112) × ((i j : ℕ) → i < l.columns → j < l.j → IsCopied l.reference l.fn.x l.fn.y l.window i j)
-
-abbrev pub invariant-loop-i : goal.invariant-loop-i
-invariant-loop-i l =
-    (length l.window ≡ 5112) × ((i j : ℕ) → i < l.columns → j < l.j → IsCopied l.reference l.fn.x l.fn.y l.window i j) ×
-    ((i : ℕ) → i < l.i → IsCopied l.reference l.fn.x l.fn.y l.window i l.j)
+invariant-loop-j l =
+    HasFirst 0 (l.j * l.side) (λ k. nearest_sample l.reference (l.fn.x +ℤ pos (k % l.side)) (l.fn.y +ℤ pos (k / l.side))) l.window

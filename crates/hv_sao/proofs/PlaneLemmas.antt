@@ -11,7 +11,6 @@ use Rattle.std.proofs.lemmas.Nat.{div-mul-add}
 use Rattle.std.proofs.lemmas.Grind.{div_ceil_times}
 use Rattle.std.proofs.Math.Nat.{mul-le-mul_right, add-mul}
 use Rattle.hv_types.specs.Samples.{Plane, IsWhole, with_run}
-use Rattle.hv_sao.specs.Rows.{IsRow}
 use Rattle.hv_sao.specs.Planes.{IsWritten, number_at, block_sample}
 use Rattle.hv_sao.proofs.RowLemmas.{no_part, length-part, part_put, length_with_part, part_joined}
 
@@ -43,16 +42,40 @@ run_written x y n values p whole down count across =
       part = part_put (y * p.width + x) values p.samples inside;
     })
 
--- one part behind another
-pub part_written : (y n m k : ℕ) (f g : ℕ → ℕ) (old mid new : Plane) → IsWritten 0 y n f old mid → IsWritten n y m g mid new →
-    ((i : ℕ) → i < m → g i ≡ f (n + i)) → k ≡ n + m → IsWritten 0 y k f old new
-part_written y n m k f g old mid new h h₂ same is = record {
+-- what is written is the same by other words
+pub written_as : (x y n : ℕ) (f g : ℕ → ℕ) (old new : Plane) → ((i : ℕ) → i < n → f i ≡ g i) → IsWritten x y n f old new →
+    IsWritten x y n g old new
+written_as x y n f g old new same h = record {
+  wide = h.wide;
+  high = h.high;
+  size = h.size;
+  part = record {
+    part = λ i below. h.part.part i below ∙ same i below;
+    before = h.part.before;
+    behind = h.part.behind;
+  };
+}
+
+-- a part that begins inside another, or at its end, and reaches as far at least
+pub part_written : (x y n at m k next : ℕ) (f g : ℕ → ℕ) (old mid new : Plane) → IsWritten x y n f old mid → IsWritten next y m g mid new →
+    next ≡ x + at → at ≤ n → n ≤ at + m → ((i : ℕ) → i < m → g i ≡ f (at + i)) → k ≡ at + m → IsWritten x y k f old new
+part_written x y n at m k next f g old mid new h h₂ place within reach same is = record {
   wide = h₂.wide ∙ h.wide;
   high = h₂.high ∙ h.high;
   size = h₂.size ∙ h.size;
-  part = part_joined (y * old.width + 0) n m k (y * mid.width + n) f g old.samples mid.samples new.samples h.part h₂.part
-      (ap (λ w. y * w + n) h.wide ∙ omega arith) same is;
+  part = part_joined (y * old.width + x) n at m k (y * mid.width + next) f g old.samples mid.samples new.samples h.part h₂.part
+      (ap (λ w. y * w + next) h.wide ∙ omega (arith, place)) within reach same is;
 }
+
+-- a run put where all before it in the part is right
+pub run_more : (x y n at m k next : ℕ) (f : ℕ → ℕ) (values : List ℕ) (old mid : Plane) → IsWhole old → y < old.height →
+    length values ≡ m → next + m ≤ old.width → ((i : ℕ) → i < m → number_at values i ≡ f (at + i)) →
+    IsWritten x y n f old mid → next ≡ x + at → at ≤ n → n ≤ at + m → k ≡ at + m → IsWritten x y k f old (with_run mid next y values)
+run_more x y n at m k next f values old mid whole down count across same h place within reach is =
+    part_written x y n at m k next f (number_at values) old mid (with_run mid next y values) h
+    (run_written next y m values mid (whole_written x y n f old mid whole h) (omega (arith, down, h.high)) count
+    (omega (arith, across, h.wide)))
+    place within reach same is
 
 -- ---- blocks of a row
 
@@ -77,24 +100,23 @@ choice_inside w s k first n inside room =
 
 -- a block's part of a row behind those before it
 pub block_written : (component : Component) (choices : List SaoParam) (first side width y column step : ℕ) (none : SaoParam)
-    (choice : SaoComponent) (plane old mid new : Plane) (row : List ℕ) → 0 < side → column * side < width →
+    (choice : SaoComponent) (plane old mid new : Plane) → 0 < side → column * side < width →
     step ≡ min side (width - column * side) → first + column < length choices →
-    choice ≡ component_of component (get_or choices (first + column) none) → length row ≡ step →
-    IsRow (λ i. sao_sample choice plane (column * side + i) y) row →
+    choice ≡ component_of component (get_or choices (first + column) none) →
     IsWritten 0 y (min (column * side) width) (block_sample component choices first side plane y) old mid →
-    IsWritten (column * side) y (column * side + step - column * side) (number_at row) mid new →
+    IsWritten (column * side) y (column * side + step - column * side) (λ i. sao_sample choice plane (column * side + i) y) mid new →
     IsWritten 0 y (min ((column + 1) * side) width) (block_sample component choices first side plane y) old new
-block_written component choices first side width y column step none choice plane old mid new row some inside is there chosen count values h h₂ =
+block_written component choices first side width y column step none choice plane old mid new some inside is there chosen h h₂ =
     let n : ℕ = column * side in
     let begin : min n width ≡ n = omega arith in
     let more : (column + 1) * side ≡ column * side + 1 * side = add-mul column 1 side in
     let same : choice ≡ component_of component (get_or choices (first + column) off_param) =
     chosen ∙ ap (λ p. component_of component p) (get_or_default choices (first + column) none off_param there) in
-    part_written y n (n + step - n) (min ((column + 1) * side) width) (block_sample component choices first side plane y) (number_at row)
-    old mid new (subst (λ k. IsWritten 0 y k (block_sample component choices first side plane y) old mid) begin h) h₂
+    part_written 0 y n n (n + step - n) (min ((column + 1) * side) width) n (block_sample component choices first side plane y)
+    (λ i. sao_sample choice plane (n + i) y) old mid new (subst (λ k. IsWritten 0 y k (block_sample component choices first side plane y) old mid) begin h) h₂
+    (omega arith) (omega arith) (omega arith)
     (λ i below.
-    values i (omega (arith, below))
-    ∙ ap (λ c. sao_sample c plane (n + i) y) same
+    ap (λ c. sao_sample c plane (n + i) y) same
     ∙ ap (λ k. sao_sample (component_of component (get_or choices (first + k) off_param)) plane (n + i) y)
     (sym (div-mul-add column side i (omega (arith, below)))))
     (omega (arith, more))

@@ -105,19 +105,19 @@ part_put lead values old inside =
           ∙ ap (λ n. get_or old n 0) (omega (arith, above));
     }
 
--- one part behind another
-pub part_joined : (lead n m k next : ℕ) (f g : ℕ → ℕ) (old mid new : List ℕ) → HasPart lead n f old mid → HasPart next m g mid new →
-    next ≡ lead + n → ((i : ℕ) → i < m → g i ≡ f (n + i)) → k ≡ n + m → HasPart lead k f old new
-part_joined lead n m k next f g old mid new h h₂ at same is = record {
+-- a part that begins inside another, or at its end, and reaches as far at least
+pub part_joined : (lead n at m k next : ℕ) (f g : ℕ → ℕ) (old mid new : List ℕ) → HasPart lead n f old mid → HasPart next m g mid new →
+    next ≡ lead + at → at ≤ n → n ≤ at + m → ((i : ℕ) → i < m → g i ≡ f (at + i)) → k ≡ at + m → HasPart lead k f old new
+part_joined lead n at m k next f g old mid new h h₂ place within reach same is = record {
   part = λ i below.
       ⊎_elim
-      (λ early. h₂.before (lead + i) (omega arith) ∙ h.part i early)
+      (λ early. h₂.before (lead + i) (omega arith) ∙ h.part i (omega arith))
       (λ late.
-      let j : ℕ = i - n in
+      let j : ℕ = i - at in
       let place : next + j ≡ lead + i = omega arith in
-      let number : n + j ≡ i = omega arith in
+      let number : at + j ≡ i = omega arith in
       ap (λ p. get_or new p 0) (sym place) ∙ h₂.part j (omega arith) ∙ same j (omega arith) ∙ ap f number)
-      (cases_lt i n);
+      (cases_lt i at);
   before = λ p below. h₂.before p (omega arith) ∙ h.before p below;
   behind = λ p above. h₂.behind p (omega arith) ∙ h.behind p (omega arith);
 }

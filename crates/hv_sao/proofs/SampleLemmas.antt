@@ -1,13 +1,13 @@
 -- Samples with their offsets, from their categories (8.7.3.2).
-use Rattle.std.proofs.Common.{◌≡◌, ℕ, ◌+◌, ◌-◌, ◌<◌, ◌≤◌, List, length, get_or, ⊎_elim, Some, pos, ◌+ℤ◌, sym, ◌∙◌, ap, arith}
+use Rattle.std.proofs.Common.{◌≡◌, ℕ, ◌+◌, ◌-◌, ◌/◌, ◌<◌, ◌≤◌, List, length, get_or, ⊎_elim, Some, pos, ◌+ℤ◌, sym, ◌∙◌, ap, arith}
 use Rattle.std.proofs.lemmas.Bool.{cases_lt}
 use Rattle.hv_lemmas.specs.Clipping.{clip1}
 use Rattle.hv_plan.specs.declared.offsets.SaoKind.{SaoKind}
-use Rattle.hv_plan.specs.declared.offsets.SaoKind.TheVariants.{Edge}
+use Rattle.hv_plan.specs.declared.offsets.SaoKind.TheVariants.{Band, Edge}
 use Rattle.hv_plan.specs.declared.offsets.SaoComponent.{SaoComponent}
 use Rattle.hv_types.specs.Samples.{Plane, sample_at}
 use Rattle.hv_filter_model.proofs.OffLemmas.{clip1_same}
-use Rattle.hv_filter_model.specs.SampleAdaptiveOffset.{category, edge_of, edgeIdx, SaoOffsetVal, sao_sample}
+use Rattle.hv_filter_model.specs.SampleAdaptiveOffset.{bandTable, category, edge_of, edgeIdx, SaoOffsetVal, sao_sample}
 use Rattle.hv_sao.specs.Rows.{IsRow, HasPart, IsEdgeRow, edge_sample}
 
 pub by_category : (component : SaoComponent) (class : ℕ) (plane : Plane) (x y k : ℕ) → component.kind ≡ Edge class →
@@ -21,6 +21,14 @@ without_edge : (component : SaoComponent) (class : ℕ) (plane : Plane) (x y s :
     edgeIdx class plane x y ≡ 0 → s ≡ sample_at plane x y → s < 256 → s ≡ sao_sample component plane x y
 without_edge component class plane x y s kind none same byte =
     sym (by_category component class plane x y 0 kind none ∙ ap (λ n. clip1 (pos n +ℤ pos 0)) (sym same) ∙ clip1_same s byte)
+
+-- a sample with the offset of its band
+pub by_band : (component : SaoComponent) (position : ℕ) (plane : Plane) (x y s : ℕ) → component.kind ≡ Band position →
+    s ≡ sample_at plane x y →
+    clip1 (pos s +ℤ SaoOffsetVal component (bandTable position (s / 8))) ≡ sao_sample component plane x y
+by_band component position plane x y s kind same =
+    ap (λ n. clip1 (pos n +ℤ SaoOffsetVal component (bandTable position (n / 8)))) same
+    ∙ ap (λ (v : SaoKind). clip1 (pos (sample_at plane x y) +ℤ SaoOffsetVal component (category v plane x y))) (sym kind)
 
 -- a row whose edges are put into a copy of it
 pub edges_put : (component : SaoComponent) (class : ℕ) (plane : Plane) (y from to start : ℕ) (samples first second whole new : List ℕ) →

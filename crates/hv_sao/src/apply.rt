@@ -4,15 +4,48 @@ ghost use Rattle.std.specs.Prelude.{◌≡◌, ℕ, ◌+◌, ◌-◌, ◌*◌, �
 ghost use Rattle.hv_types.specs.Samples.{IsPlane};
 ghost use Rattle.hv_types.specs.Video.{IsPicture};
 ghost use Rattle.hv_filter_model.specs.Blocks.{luma_side, blocks_over};
-ghost use Rattle.hv_filter_model.specs.SampleAdaptiveOffset.{IsValidParam, sao_plane, sao_picture};
+ghost use Rattle.hv_filter_model.specs.SampleAdaptiveOffset.{IsKind, IsValidParam, sao_sample, sao_plane, sao_picture};
 ghost use Rattle.hv_sao.specs.Components.{component_of};
 ghost use Rattle.hv_sao.specs.Planes.{IsWritten, block_sample};
 
+use crate::bands::{LANES, put_bands};
 use crate::component::Component;
 use crate::rows::fill_row;
 use crate::sides::{CHROMA_SIDE, LUMA_SIDE};
-use hv_plan::SaoParam;
+use hv_plan::{SaoComponent, SaoKind, SaoParam};
 use hv_types::{Picture, Plane};
+
+/// Writes the columns `from` to `to` of row `y` with their offsets.
+#[inline(always)]
+fn apply_part(
+    choice: SaoComponent,
+    deblocked: &Plane,
+    y: u32,
+    from: u32,
+    to: u32,
+    shown: &mut Plane,
+)
+    requires kind { IsKind choice.kind }
+    requires down { y < deblocked.now.height }
+    requires order { from ≤ to }
+    requires most { to ≤ from + 64 }
+    requires across { to ≤ deblocked.now.width }
+    requires shown { IsPlane deblocked.now.width deblocked.now.height shown.old }
+    ensures { IsWritten from y (to - from) (λ i. sao_sample choice deblocked.now (from + i) y)
+        shown.old shown.new }
+{
+    match choice.kind {
+        SaoKind::Band { position } if to - from >= LANES => {
+            put_bands(choice, position, deblocked, y, from, to, shown);
+        }
+        _ => {
+            let mut row = [0u8; 64];
+            let part = &mut row[..(to - from) as usize];
+            fill_row(choice, deblocked, y, from, to, part);
+            shown.set_run(from, y, part);
+        }
+    }
+}
 
 /// Writes row `y` with its offsets. Its blocks have this side, and their choices stand from place
 /// `first` on.
@@ -34,15 +67,12 @@ fn apply_row(
     ensures { IsWritten 0 y deblocked.now.width
         (block_sample component sao.now first side deblocked.now y) shown.old shown.new }
 {
-    let mut row = [0u8; 64];
     let width = deblocked.width();
     for column in 0..width.div_ceil(side) {
         let from = column * side;
         let to = from + side.min(width - from);
-        let part = &mut row[..(to - from) as usize];
         let choice = component.of(sao[first + column as usize]);
-        fill_row(choice, deblocked, y, from, to, part);
-        shown.set_run(from, y, part);
+        apply_part(choice, deblocked, y, from, to, shown);
     }
 }
 

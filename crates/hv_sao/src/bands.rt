@@ -3,14 +3,23 @@
 //! By how much each of the four bands raises and lowers its samples stands in two vectors, with
 //! nothing for all other bands behind them. A lane takes its own from there by its band's place.
 
-ghost use Rattle.std.specs.Prelude.{◌≡◌, ℕ, ◌+◌, ◌<◌, ◌≤◌, length, slice_index_or};
+ghost use Rattle.std.specs.Prelude.{◌≡◌, ℕ, ◌+◌, ◌-◌, ◌<◌, ◌≤◌, length, slice_index_or};
+ghost use Rattle.hv_types.specs.Samples.{IsPlane};
 ghost use Rattle.hv_plan.specs.declared.offsets.SaoComponent.{SaoComponent};
+ghost use Rattle.hv_plan.specs.declared.offsets.SaoKind.TheVariants.{Band};
+ghost use Rattle.hv_filter_model.specs.SampleAdaptiveOffset.{sao_sample};
 ghost use Rattle.hv_sao.specs.Bands.{raise, lower, band_place, raised_lowered, AreMade};
-ghost use Rattle.hv_sao.specs.Rows.{IsRow, HasPart, band_sample};
+ghost use Rattle.hv_sao.specs.Planes.{IsWritten};
+ghost use Rattle.hv_sao.specs.Rows.{IsRow, band_sample};
 
+use crate::edges::part_of_row;
 use crate::samples::{VECTOR, band_category, shown_sample};
 use hv_plan::SaoComponent;
+use hv_types::Plane;
 use std::simd::prelude::*;
+
+/// How many samples are done at once, as a number of columns.
+pub(crate) const LANES: u32 = 16;
 
 /// By how much an offset raises samples.
 #[inline(always)]
@@ -79,25 +88,23 @@ fn raised_lowered(samples: u8x16, up: u8x16, down: u8x16) -> u8x16
     samples.saturating_add(up).saturating_sub(down)
 }
 
-/// Writes the sixteen samples from place `at` on, where bands raise and lower them so.
+/// The sixteen samples from place `at` on, where bands raise and lower them so.
 #[inline(always)]
-fn put_sixteen(samples: &[u8], at: usize, position: u8, up: u8x16, down: u8x16, out: &mut [u8])
+fn sixteen_shown(samples: &[u8], at: usize, position: u8, up: u8x16, down: u8x16) -> [u8; 16]
     requires position { position < 32 }
     requires inside { at + 16 ≤ length samples.now }
-    requires room { length out.old ≡ length samples.now }
-    ensures { (component : SaoComponent) → AreMade raise component.offsets up →
-        AreMade lower component.offsets down → HasPart at 16
-        (λ i. band_sample component position samples.now (at + i)) out.old out.new }
+    ensures count { length result ≡ 16 }
+    ensures samples { (component : SaoComponent) → AreMade raise component.offsets up →
+        AreMade lower component.offsets down →
+        IsRow (λ i. band_sample component position samples.now (at + i)) result }
 {
     let sixteen = u8x16::from_slice(&samples[at..at + VECTOR]);
     let places = places(sixteen, position);
-    raised_lowered(sixteen, taken(up, places), taken(down, places)).copy_to_slice(
-        &mut out[at..at + VECTOR],
-    );
+    raised_lowered(sixteen, taken(up, places), taken(down, places)).to_array()
 }
 
-/// Samples of a row that has fewer than sixteen, with the offsets of their bands.
-fn put_few_bands(samples: &[u8], position: u8, component: SaoComponent, out: &mut [u8])
+/// Samples of a row with the offsets of their bands, one by one.
+pub(crate) fn fill_bands(samples: &[u8], position: u8, component: SaoComponent, out: &mut [u8])
     requires position { position < 32 }
     requires room { length out.old ≡ length samples.now }
     ensures { IsRow (band_sample component position samples.now) out.new }
@@ -107,21 +114,35 @@ fn put_few_bands(samples: &[u8], position: u8, component: SaoComponent, out: &mu
     }
 }
 
-/// Samples of a row with the offsets of their bands. The last sixteen may overlap those before.
-pub(crate) fn fill_bands(samples: &[u8], position: u8, component: SaoComponent, out: &mut [u8])
+/// Writes the samples of row `y` in the columns `from` to `to`, sixteen at least, with the offsets
+/// of their bands. The last sixteen may overlap those before.
+#[inline(always)]
+pub(crate) fn put_bands(
+    component: SaoComponent,
+    position: u8,
+    plane: &Plane,
+    y: u32,
+    from: u32,
+    to: u32,
+    shown: &mut Plane,
+)
+    requires kind { component.kind ≡ Band position }
     requires position { position < 32 }
-    requires room { length out.old ≡ length samples.now }
-    ensures { IsRow (band_sample component position samples.now) out.new }
+    requires down { y < plane.now.height }
+    requires least { from + 16 ≤ to }
+    requires across { to ≤ plane.now.width }
+    requires shown { IsPlane plane.now.width plane.now.height shown.old }
+    ensures { IsWritten from y (to - from) (λ i. sao_sample component plane.now (from + i) y)
+        shown.old shown.new }
 {
-    let count = samples.len();
-    if count < VECTOR {
-        put_few_bands(samples, position, component, out);
-    } else {
-        let up = raises(component.offsets);
-        let down = lowers(component.offsets);
-        for g in 0..(count - 1) / VECTOR {
-            put_sixteen(samples, VECTOR * g, position, up, down, out);
-        }
-        put_sixteen(samples, count - VECTOR, position, up, down, out);
+    let count = to - from;
+    let samples = part_of_row(plane, y, from, count);
+    let up = raises(component.offsets);
+    let down = lowers(component.offsets);
+    for g in 0..(count - 1) / LANES {
+        let sixteen = sixteen_shown(samples, VECTOR * g as usize, position, up, down);
+        shown.set_run(from + LANES * g, y, &sixteen);
     }
+    let last = sixteen_shown(samples, (count - LANES) as usize, position, up, down);
+    shown.set_run(to - LANES, y, &last);
 }

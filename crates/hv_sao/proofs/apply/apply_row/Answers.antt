@@ -21,20 +21,9 @@ loop-column-preserved c =
     (subst (λ d. c.loop-column.column < d) c.div_ceil-column-end.ensures c.loop-column-test.true) in
     let there : c.args.first + c.loop-column.column < length c.args.sao.now =
     choice_inside c.args.deblocked.now.width c.args.side c.loop-column.column c.args.first _ (omega (arith, c.width-width.ensures.value)) c.requires.room in
-    let size : length c.fill_row.new.out ≡ n + c.min.result - n =
-    omega (arith, c.fill_row.auto.out, length-take-le (n + c.min.result - n) c.loop-column.row (omega (arith, c.min.array_long, c.min.ensures, c.requires.most))) in
-    let whole : IsWhole c.loop-column.shown =
-    whole_written 0 c.args.y _ _ c.args.shown.now c.loop-column.shown c.requires.shown.whole c.loop-column.invariant in
-    let across : n + (n + c.min.result - n) ≤ c.loop-column.shown.width =
-    omega (arith, inside, c.min.ensures, c.loop-column.invariant.wide, c.requires.shown.wide, c.width-width.ensures.value) in
-    let down : c.args.y < c.loop-column.shown.height =
-    omega (arith, c.requires.down, c.loop-column.invariant.high, c.requires.shown.high) in
     block_written c.args.component c.args.sao.now c.args.first c.args.side c.width-width.result c.args.y c.loop-column.column c.min.result _
-    c.of-choice.result c.args.deblocked.now c.args.shown.now c.loop-column.shown c.set_run.new.self c.fill_row.new.out
-    c.requires.least inside c.min.ensures there c.of-choice.ensures (omega (arith, size))
-    c.fill_row.ensures c.loop-column.invariant
-    (rw c.set_run.ensures
-    (run_written n c.args.y (n + c.min.result - n) c.fill_row.new.out c.loop-column.shown whole down size across))
+    c.of-choice.result c.args.deblocked.now c.args.shown.now c.loop-column.shown c.apply_part.new.shown
+    c.requires.least inside c.min.ensures there c.of-choice.ensures c.loop-column.invariant c.apply_part.ensures
 
 pub returns : goal.returns
 returns c =

@@ -1,5 +1,5 @@
 -- Samples of a row with the offsets of their bands, lane by lane (8.7.3.2).
-use Rattle.std.proofs.Common.{◌≡◌, ℕ, zero, suc, ◌+◌, ◌-◌, ◌*◌, ◌/◌, ◌%◌, ◌<◌, ◌≤◌, Bool, true, false, cond, nat_lt, List, [], ◌∷◌, ◌++◌, map, replicate, take, drop, length, length-drop, get_or, min, ℤ, pos, negsuc, ◌+ℤ◌, ⊎_elim, refl, sym, ◌∙◌, ap, ap₂, arith, w8, Fits, ltb}
+use Rattle.std.proofs.Common.{◌≡◌, ℕ, zero, suc, ◌+◌, ◌-◌, ◌*◌, ◌/◌, ◌%◌, ◌<◌, ◌≤◌, Bool, true, false, cond, nat_lt, List, [], ◌∷◌, ◌++◌, map, replicate, take, drop, length, length-drop, get_or, min, ℤ, pos, negsuc, ◌+ℤ◌, ⊎_elim, refl, sym, ◌∙◌, ap, ap₂, arith, w8, Fits, FitsSigned, of_z, ltb}
 use Rattle.std.proofs.lemmas.Bool.{cases_lt, ltb-true, ltb-false}
 use Rattle.std.proofs.lemmas.Int.{ints, clamps}
 use Rattle.std.proofs.lemmas.List.{get_or-take, get_or-drop, get_or_append_left, get_or-append_right, length-take-le}
@@ -185,6 +185,33 @@ sixteen_more n at f old new within right put k below =
     let e : at + (k - at) ≡ k = omega (arith, late) in
     ap (λ i. get_or new i 0) (sym e) ∙ put.part (k - at) (omega (arith, late, below)) ∙ ap f e)
     (cases_lt k at)
+
+-- what a byte raises and lowers by
+pub byte_raises : (z : ℤ) → FitsSigned w8 z → raise z ≡ cond (nat_lt (of_z w8 z) 128) (of_z w8 z) 0
+byte_raises (pos n) fits = let small : n < 128 = omega (arith, ints, fits) in grind (arith, small)
+byte_raises (negsuc n) fits = let small : n < 128 = omega (arith, ints, fits) in grind (arith, small)
+
+pub byte_lowers : (z : ℤ) → FitsSigned w8 z → lower z ≡ cond (nat_lt (of_z w8 z) 128) 0 (256 - of_z w8 z)
+byte_lowers (pos n) fits = let small : n < 128 = omega (arith, ints, fits) in grind (arith, small)
+byte_lowers (negsuc n) fits = let small : n < 128 = omega (arith, ints, fits) in grind (arith, small)
+
+-- a byte below 128, else 0; and what lacks of 256 where it isn't
+pub raise_lane : (x : ℕ) → cond (top 7 (is_less x 128)) x 0 ≡ cond (nat_lt x 128) x 0
+raise_lane x = go (ltb x 128) refl
+  where
+    go : (b : Bool) → ltb x 128 ≡ b → cond (top 7 (cond b 255 0)) x 0 ≡ cond (nat_lt x 128) x 0
+    go true e = grind (arith, ltb-true _ _ e)
+    go false e = grind (arith, ltb-false _ _ e)
+
+pub lower_lane : (x : ℕ) → x < 256 → minus 0 (cond (top 7 (is_less x 128)) 0 x) ≡ cond (nat_lt x 128) 0 (256 - x)
+lower_lane x below = go (ltb x 128) refl
+  where
+    go : (b : Bool) → ltb x 128 ≡ b → minus 0 (cond (top 7 (cond b 255 0)) 0 x) ≡ cond (nat_lt x 128) 0 (256 - x)
+    go true e = grind (arith, ltb-true _ _ e)
+    go false e =
+        let high : 128 ≤ x = ltb-false _ _ e in
+        let same : cond (nat_lt x 128) 0 (256 - x) ≡ 256 - x = grind arith in
+        omega (arith, high, below) ∙ sym same
 
 -- what is made of four offsets
 pub made_of : (f : ℤ → ℕ) (offsets : List ℤ) (a b c d : ℕ) (rest : List ℕ) →

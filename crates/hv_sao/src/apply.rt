@@ -49,6 +49,7 @@ fn apply_part(
 
 /// Writes row `y` with its offsets. Its blocks have this side, and their choices stand from place
 /// `first` on.
+#[inline(always)]
 fn apply_row(
     deblocked: &Plane,
     y: u32,
@@ -77,6 +78,7 @@ fn apply_row(
 }
 
 /// Writes a plane with its offsets. Its blocks have this side, and `across` of them stand in a row.
+#[inline(always)]
 fn apply_plane(
     deblocked: &Plane,
     side: u32,

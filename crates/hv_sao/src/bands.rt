@@ -3,7 +3,7 @@
 //! By how much each of the four bands raises and lowers its samples stands in two vectors, with
 //! nothing for all other bands behind them. A lane takes its own from there by its band's place.
 
-ghost use Rattle.std.specs.Prelude.{◌≡◌, ℕ, ◌+◌, ◌-◌, ◌<◌, ◌≤◌, length, slice_index_or};
+ghost use Rattle.std.specs.Prelude.{◌≡◌, ℕ, ◌+◌, ◌-◌, ◌<◌, ◌≤◌, cond, nat_lt, length, slice_index_or};
 ghost use Rattle.hv_types.specs.Samples.{IsPlane};
 ghost use Rattle.hv_plan.specs.declared.offsets.SaoComponent.{SaoComponent};
 ghost use Rattle.hv_plan.specs.declared.offsets.SaoKind.TheVariants.{Band};
@@ -21,20 +21,14 @@ use std::simd::prelude::*;
 /// How many samples are done at once, as a number of columns.
 pub(crate) const LANES: u32 = 16;
 
-/// By how much an offset raises samples.
+/// An offset as a byte: what is negative is 128 and more.
 #[inline(always)]
-fn raise(offset: i8) -> u8
-    ensures { result ≡ raise offset }
+fn byte_of(offset: i8) -> u8
+    ensures raised { raise offset ≡ cond (nat_lt result 128) result 0 }
+    ensures lowered { lower offset ≡ cond (nat_lt result 128) 0 (256 - result) }
+    ensures byte { result < 256 }
 {
-    offset.max(0) as u8
-}
-
-/// By how much an offset lowers samples.
-#[inline(always)]
-fn lower(offset: i8) -> u8
-    ensures { result ≡ lower offset }
-{
-    offset.min(0).unsigned_abs()
+    offset.cast_unsigned()
 }
 
 /// By how much each of the four bands raises its samples.
@@ -43,8 +37,11 @@ fn raises(offsets: [i8; 4]) -> u8x16
     ensures { AreMade raise offsets result }
 {
     let [a, b, c, d] = offsets;
-    let (a, b, c, d) = (raise(a), raise(b), raise(c), raise(d));
-    u8x16::from_array([a, b, c, d, 0, 0, 0, 0, 0, 0, 0, 0, 0, 0, 0, 0])
+    let (a, b, c, d) = (byte_of(a), byte_of(b), byte_of(c), byte_of(d));
+    let bytes = u8x16::from_array([a, b, c, d, 0, 0, 0, 0, 0, 0, 0, 0, 0, 0, 0, 0]);
+    bytes
+        .simd_lt(u8x16::splat(128))
+        .select(bytes, u8x16::splat(0))
 }
 
 /// By how much each of the four bands lowers its samples.
@@ -53,8 +50,12 @@ fn lowers(offsets: [i8; 4]) -> u8x16
     ensures { AreMade lower offsets result }
 {
     let [a, b, c, d] = offsets;
-    let (a, b, c, d) = (lower(a), lower(b), lower(c), lower(d));
-    u8x16::from_array([a, b, c, d, 0, 0, 0, 0, 0, 0, 0, 0, 0, 0, 0, 0])
+    let (a, b, c, d) = (byte_of(a), byte_of(b), byte_of(c), byte_of(d));
+    let bytes = u8x16::from_array([a, b, c, d, 0, 0, 0, 0, 0, 0, 0, 0, 0, 0, 0, 0]);
+    let negative = bytes
+        .simd_lt(u8x16::splat(128))
+        .select(u8x16::splat(0), bytes);
+    u8x16::splat(0) - negative
 }
 
 /// How many bands behind the first of the four each sample's lies, at most 4.

@@ -1,9 +1,7 @@
-use Rattle.std.proofs.Common.{◌≡◌, ◌≤◌, ◌<◌, ◌+◌, ◌-◌, ◌*◌, ℕ, arith, subst, length, sym}
+use Rattle.std.proofs.Common.{◌≤◌, ◌<◌, ◌+◌, ◌*◌, ℕ, arith, subst, length, sym}
 use Rattle.std.proofs.Math.Nat.{mul-le-mul_right}
-use Rattle.std.proofs.lemmas.List.{length-take-le}
-use Rattle.hv_types.specs.Samples.{IsWhole}
 use Rattle.hv_sao.specs.Planes.{IsWritten, block_sample}
-use Rattle.hv_sao.proofs.PlaneLemmas.{block_inside, blocks_reach, choice_inside, whole_written, run_written, block_written}
+use Rattle.hv_sao.proofs.PlaneLemmas.{block_inside, blocks_reach, choice_inside, block_written}
 use Rattle.hv_sao.proofs.apply.apply_row.Goals as goal
 
 pub bounds-sao-first : goal.bounds-sao-first

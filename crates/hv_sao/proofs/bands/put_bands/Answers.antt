@@ -1,4 +1,4 @@
-use Rattle.std.proofs.Common.{ℕ, ◌+◌, ◌*◌, ◌-◌, length, refl, arith}
+use Rattle.std.proofs.Common.{ℕ, ◌+◌, ◌*◌, ◌-◌, refl, arith}
 use Rattle.hv_filter_model.specs.SampleAdaptiveOffset.{sao_sample}
 use Rattle.hv_sao.specs.Rows.{band_sample}
 use Rattle.hv_sao.proofs.PlaneLemmas.{nothing_written, run_more, written_as}

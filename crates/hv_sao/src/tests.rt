@@ -1,4 +1,4 @@
-//! Each public call, on flat pictures and on one with a spike.
+//! Each public call: on flat pictures, on one with a spike, and on one with a slope.
 ghost use Rattle.std.specs.Prelude.{IfOk};
 ghost use Rattle.hv_types.specs.Samples.{IsPlane};
 ghost use Rattle.hv_types.specs.Video.{IsPicture};
@@ -111,6 +111,60 @@ fn a_spike_is_levelled(rt: HostRuntime) -> Result<(), Fail> {
     assert_eq!(rt; choice, wanted);
     assert_eq!(rt; shown.luma.samples(), input.luma.samples());
     assert_eq!(rt; (shown.cb.at(0, 0), shown.cb.at(3, 3)), (97, 97));
+    assert_eq!(rt; shown.cr.samples(), input.cr.samples());
+    Ok(())
+}
+
+/// A plane of 24 columns and 8 rows of 10, but for a row that rises by 8 a column, with these four
+/// samples in its bands from the fourth on.
+fn sloped(alloc: Global, four: [u8; 4]) -> Result<Plane, NoMemory>
+    ensures { IfOk result (IsPlane 24 8) }
+{
+    let mut plane = Plane::new(alloc, 24, 8, 10)?;
+    for x in 0..24u32 {
+        plane.set(x, 1, (8 * x) as u8);
+    }
+    let [a, b, c, d] = four;
+    plane.set(3, 1, a);
+    plane.set(4, 1, b);
+    plane.set(5, 1, c);
+    plane.set(6, 1, d);
+    Ok(plane)
+}
+
+/// A picture whose luma is such a slope; Cb and Cr have one value each.
+fn sloped_picture(alloc: Global, four: [u8; 4], cb: u8) -> Result<Picture, NoMemory>
+    ensures { IfOk result (λ p. IsPicture 24 8 p) }
+{
+    Ok(Picture {
+        luma: sloped(alloc, four)?,
+        cb: Plane::new(alloc, 12, 4, cb)?,
+        cr: Plane::new(alloc, 12, 4, 50)?,
+    })
+}
+
+/// Sixteen columns of luma are done at once, and the last sixteen are again; Cb has fewer.
+#[test]
+fn bands_overlap_in_24_columns(rt: HostRuntime) -> Result<(), Fail> {
+    let deblocked = sloped_picture(rt.alloc(), [24, 32, 40, 48], 100)?;
+    let input = sloped_picture(rt.alloc(), [27, 34, 37, 44], 104)?;
+    let mut shown = sloped_picture(rt.alloc(), [0, 0, 0, 0], 0)?;
+    let place = Place {
+        width: 24,
+        height: 8,
+        index: 0,
+    };
+
+    let choice = choose_sao(&deblocked, &input, place, 12);
+    apply_sao(&deblocked, &[choice], &mut shown);
+
+    let four = SaoComponent {
+        kind: SaoKind::Band { position: 3 },
+        offsets: [3, 2, -3, -4],
+    };
+    assert_eq!(rt; choice.luma, four);
+    assert_eq!(rt; shown.luma.samples(), input.luma.samples());
+    assert_eq!(rt; shown.cb.samples(), input.cb.samples());
     assert_eq!(rt; shown.cr.samples(), input.cr.samples());
     Ok(())
 }

@@ -1,16 +1,20 @@
 -- Predictions at all fractions from sums along rows (8.5.3.3.3). A fraction of 0 has one tap, which
 -- is 64, so both filters give what one or none does.
-use Rattle.std.proofs.Common.{◌≡◌, ℕ, zero, suc, ◌+◌, ◌*◌, ◌/◌, ◌%◌, ◌<◌, true, List, [], ◌∷◌, length, slice_index_or, ℤ, pos, negsuc, ◌+ℤ◌, ◌-ℤ◌, ◌*ℤ◌, refl, sym, ap, ap₂, ◌∙◌, arith}
+use Rattle.std.proofs.Common.{◌≡◌, ℕ, zero, suc, ◌+◌, ◌*◌, ◌/◌, ◌%◌, ◌<◌, true, List, [], ◌∷◌, length, slice_index_or, ℤ, pos, negsuc, ◌+ℤ◌, ◌-ℤ◌, ◌*ℤ◌, refl, sym, ap, ap₂, ◌∙◌, arith, subst, drop, length-drop, take, ◌≤◌, Fits, w8}
 use Rattle.std.proofs.lemmas.Int.{ints}
+use Rattle.std.proofs.lemmas.List.{get_or-take, get_or-drop, length-take-le}
+use Rattle.std.specs.Int.RustNames.{unsigned_abs}
 use Rattle.std.proofs.Math.IntN.{zero-*ℤ, suc_ℤ-*ℤ, pred_ℤ-*ℤ}
 use Rattle.std.specs.Int.{int_shr}
 use Rattle.hv_lemmas.proofs.ComparisonLemmas.{other_than_0}
 use Rattle.hv_types.specs.Samples.{Plane}
 use Rattle.hv_inter_model.specs.Interpolation.{fL, weighted, weighted_sample, predSampleLX}
 use Rattle.hv_interp.specs.Windows.{Shows, reference_from}
-use Rattle.hv_interp.specs.Filters.{HasFirst, filtered_twice, interpolated, place_of}
+use Rattle.hv_interp.specs.Filters.{HasFirst, filtered_twice, interpolated, place_of, strided_sum, strided_total, weight_of}
 use Rattle.hv_interp.specs.Fractions.{ShowsFractions}
-use Rattle.hv_interp.proofs.SumLemmas.{weighted_same}
+use Rattle.hv_interp.proofs.SumLemmas.{weighted_same, size_of_placed_sum}
+use Rattle.hv_interp.proofs.EightSumLemmas.{of_lanes}
+use Rattle.hv_interp.specs.Lanes.{lane}
 use Rattle.hv_interp.proofs.PlaceLemmas.{place_is}
 use Rattle.hv_interp.proofs.PredictionLemmas.{predSampleLX_is}
 
@@ -73,6 +77,34 @@ both_filters (suc a) zero x y A =
     shifted_64 (weighted (fL (suc a)) (λ i. A (x + i) (y + 3))))
 both_filters (suc a) (suc b) x y A =
     rw (other_than_0 (suc a) (omega arith), other_than_0 (suc b) (omega arith)) refl
+
+-- with no fraction of rows a sum of the fourth row on is what the filter of columns gives
+pub rounded_is : (sums : List ℤ) (below k : ℕ) → below ≡ 0 → k < 7776 →
+    weighted_sample (lane (take 7776 (drop 288 sums)) k) ≡ weighted_sample (int_shr (strided_total (fL below) sums k 96) 6)
+rounded_is sums below k none inside =
+    let S : ℕ → ℤ = λ j. slice_index_or sums (k + j * 96) (pos 0) in
+    ap weighted_sample (get_or-take 7776 (drop 288 sums) k (pos 0) inside ∙ get_or-drop 288 sums k (pos 0) ∙
+    ap (λ at. slice_index_or sums at (pos 0)) (omega arith)) ∙
+    sym (ap (λ b. weighted_sample (int_shr (strided_total (fL b) sums k 96) 6)) none ∙
+    ap weighted_sample (ap (λ z. int_shr z 6) (one_tap S) ∙ shifted_64 (S 3)))
+
+-- sums along rows are small
+pub sums_small : (taps : List ℤ) (w : List ℕ) (sums : List ℤ) → weight_of taps ≤ 112 → ((i : ℕ) → Fits w8 (slice_index_or w i 0)) →
+    length sums ≡ 8448 → HasFirst (pos 0) 8448 (λ k. strided_sum taps w (place_of 96 104 k) 1) sums →
+    (k : ℕ) → unsigned_abs (lane sums k) ≤ 28560
+sums_small taps w sums light bytes long has =
+    of_lanes 8448 (λ z. unsigned_abs z ≤ 28560) sums (omega arith) long
+    (λ k below. subst (λ z. unsigned_abs z ≤ 28560) (sym (has k below))
+    (size_of_placed_sum taps w (λ i. place_of 96 104 k + i * 1) light bytes))
+
+-- and so are those of the fourth row on
+pub part_small : (sums : List ℤ) → length sums ≡ 8448 → ((k : ℕ) → unsigned_abs (lane sums k) ≤ 28560) →
+    (k : ℕ) → unsigned_abs (lane (take 7776 (drop 288 sums)) k) ≤ 28560
+part_small sums long small =
+    of_lanes 7776 (λ z. unsigned_abs z ≤ 28560) (take 7776 (drop 288 sums)) (omega arith)
+    (length-take-le 7776 (drop 288 sums) (omega (arith, length-drop 288 sums, long)))
+    (λ k below. subst (λ z. unsigned_abs z ≤ 28560)
+    (sym (get_or-take 7776 (drop 288 sums) k (pos 0) below ∙ get_or-drop 288 sums k (pos 0))) (small (288 + k)))
 
 -- there are eight taps
 pub eight_taps : (n : ℕ) → n < 4 → length (fL n) ≡ 8

@@ -1,16 +1,52 @@
 //! Predictions at all fractions of a luma sample from one window (8.5.3.3.3, 8.5.3.3.4.2).
-ghost use Rattle.std.specs.Prelude.{◌≡◌, ℕ, ◌+◌, ◌*◌, ◌/◌, ◌%◌, ◌<◌, length, pos, ◌+ℤ◌, ℤ};
+ghost use Rattle.std.specs.Prelude.{◌≡◌, ℕ, ◌+◌, ◌*◌, ◌/◌, ◌%◌, ◌<◌, ◌≤◌, length, pos, ◌+ℤ◌, ℤ};
+ghost use Rattle.std.specs.Int.{int_shr};
+ghost use Rattle.std.specs.Int.RustNames.{unsigned_abs};
 ghost use Rattle.hv_types.specs.Samples.{Plane};
-ghost use Rattle.hv_inter_model.specs.Interpolation.{fL};
-ghost use Rattle.hv_interp.specs.Filters.{HasFirst, filtered_twice};
+ghost use Rattle.hv_inter_model.specs.Interpolation.{fL, weighted_sample};
+ghost use Rattle.hv_interp.specs.Filters.{HasFirst, filtered_twice, strided_total};
 ghost use Rattle.hv_interp.specs.Fractions.{ShowsFractions};
+ghost use Rattle.hv_interp.specs.Lanes.{lane};
 ghost use Rattle.hv_interp.specs.Windows.{Shows};
 
 use crate::filters::{filter_sums, sum_rows};
+use crate::lanes::round_16;
 use crate::taps::luma_taps;
 
 /// The samples of a prediction at one fraction: 81 rows of 96.
 const AREA: usize = 7776;
+
+/// Rounds sums along rows to the samples of a prediction, sixteen at a time.
+fn put_rounded(sums: &[i16], out: &mut [u8])
+    requires sums { length sums.now ≡ 7776 }
+    requires range { (k : ℕ) → unsigned_abs (lane sums.now k) ≤ 28560 }
+    requires room { length out.old ≡ 7776 }
+    ensures count { length out.new ≡ 7776 }
+    ensures each { HasFirst 0 7776 (λ k. weighted_sample (lane sums.now k)) out.new }
+{
+    for g in 0..AREA / 16 {
+        let at = 16 * g;
+        round_16(&sums[at..at + 16], &mut out[at..at + 16]);
+    }
+}
+
+/// Filters sums along rows down their columns to the samples of a prediction. With no fraction of
+/// rows the sums of the fourth row on are rounded.
+fn put_prediction(below: u8, sums: &[i16], out: &mut [u8])
+    requires below { below < 4 }
+    requires sums { length sums.now ≡ 8448 }
+    requires range { (k : ℕ) → unsigned_abs (lane sums.now k) ≤ 28560 }
+    requires room { length out.old ≡ 7776 }
+    ensures count { length out.new ≡ 7776 }
+    ensures each { HasFirst 0 7776
+        (λ k. weighted_sample (int_shr (strided_total (fL below) sums.now k 96) 6)) out.new }
+{
+    if below == 0 {
+        put_rounded(&sums[288..288 + AREA], out);
+    } else {
+        filter_sums(luma_taps(below), sums, 96, 81, out);
+    }
+}
 
 /// Fills the predictions of a fraction of columns, one for each fraction of rows, with room for the
 /// sums along rows.
@@ -27,7 +63,7 @@ fn put_four(right: u8, window: &[u8], sums: &mut [i16], out: &mut [u8])
     sum_rows(luma_taps(right), window, 104, 96, 88, sums);
     for below in 0..4u8 {
         let at = AREA * usize::from(below);
-        filter_sums(luma_taps(below), sums, 96, 81, &mut out[at..at + AREA]);
+        put_prediction(below, sums, &mut out[at..at + AREA]);
     }
 }
 

@@ -90,6 +90,19 @@ pub(crate) fn put_16_samples(sums: i16x16, out: &mut [u8])
         .copy_to_slice(out);
 }
 
+/// Writes sixteen samples of 14 bits from a slice, rounded to 8.
+#[inline(always)]
+pub(crate) fn round_16(sums: &[i16], out: &mut [u8])
+    requires sixteen { length sums.now ≡ 16 }
+    requires range { (j : ℕ) → unsigned_abs (lane sums.now j) ≤ 28560 }
+    requires room { length out.old ≡ 16 }
+    ensures count { length out.new ≡ 16 }
+    ensures each { (j : ℕ) → j < 16 →
+        slice_index_or out.new j 0 ≡ weighted_sample (lane sums.now j) }
+{
+    put_16_samples(i16x16::from_slice(sums), out);
+}
+
 /// Writes eight sums.
 #[inline(always)]
 pub(crate) fn put_sums(sums: i16x8, out: &mut [i16])

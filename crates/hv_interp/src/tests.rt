@@ -114,6 +114,33 @@ fn each_fraction(rt: HostRuntime) -> Result<(), Fail> {
     Ok(())
 }
 
+/// The predictions at all fractions from one window are those of each fraction.
+#[test]
+fn all_fractions(rt: HostRuntime) -> Result<(), Fail> {
+    let mut reference = Plane::new(rt.alloc(), 104, 104, 128)?;
+    reference.set(3, 3, 255);
+    reference.set(9, 4, 0);
+    reference.set(10, 17, 200);
+    reference.set(33, 34, 70);
+    let mut out = vec![in rt.alloc(); 0; 124416]?;
+    predict_fractions(reference.samples(), &mut out);
+    for right in 0..4usize {
+        for below in 0..4usize {
+            let mv = (right as i16, below as i16);
+            let one = block::<1024>(&reference, true, (3, 3), 32, mv);
+            for y in 0..32 {
+                let at = 31104 * right + 7776 * below + 96 * y;
+                assert_eq!(rt;
+                    &out[at..at + 32],
+                    &one[32 * y..32 * y + 32],
+                    "{right} {below} {y}"
+                );
+            }
+        }
+    }
+    Ok(())
+}
+
 /// A reference of three columns and two rows: outside stands the nearest sample.
 #[test]
 fn reference_smaller_than_the_block(rt: HostRuntime) -> Result<(), Fail> {

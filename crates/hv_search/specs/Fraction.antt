@@ -1,12 +1,10 @@
 -- The best of nine vectors, and the scores of such.
-use Rattle.std.specs.Prelude.{◌≡◌, ℕ, ◌+◌, ◌*◌, ◌/◌, ◌%◌, true, List, pos, ◌-ℤ◌}
+use Rattle.std.specs.Prelude.{◌≡◌, ℕ, ◌*◌, ◌/◌, ◌%◌, List, pos, ◌-ℤ◌}
 use Rattle.hv_lemmas.specs.Lists.{tabulate}
-use Rattle.hv_types.specs.Samples.{Plane}
 use Rattle.hv_plan.specs.declared.prediction.Mv.{Mv}
 use Rattle.hv_filter_model.specs.Costs.{first_least}
-use Rattle.hv_inter_model.specs.Interpolation.{inter_predicted}
 use Rattle.hv_interp.specs.Filters.{HasFirst}
-use Rattle.hv_search_model.specs.MotionSearch.{moved, Score, least_around, fractional_score}
+use Rattle.hv_search_model.specs.MotionSearch.{moved, Score, least_around}
 use Rattle.hv_search.specs.declared.scored.Scored.{Scored}
 
 -- place t of three rows of three around a vector
@@ -33,10 +31,3 @@ IsBestOfNine score step centre count best =
 pub record IsLeastAround (score : Score) (step : ℕ) (centre : Mv) (best : Scored) : Type 0 where
   pub is : best.mv ≡ least_around score 1 step centre
   pub sum : best.sum ≡ score best.mv
-
--- where a prediction has one column and row more than a node: the score of the vector that leads so
--- many whole samples further right and down
-abbrev pub IsSumBehind : Plane → ℕ → ℕ → ℕ → List ℕ → ℕ → ℕ → ℕ → Type 0
-IsSumBehind input x y side predicted right down sum =
-    (reference : Plane) (mv : Mv) → predicted ≡ inter_predicted true reference mv x y (side + 1) →
-    sum ≡ fractional_score input reference x y side (moved mv (pos (4 * right)) (pos (4 * down)))

@@ -55,8 +55,8 @@ pub(crate) fn candidate(centre: Mv, step: u8, right: u8, down: u8) -> Mv
     }
 }
 
-/// How many quarters of a sample a component leads further than that of nine samples less than
-/// another one, which is in whole samples.
+/// How many quarters of a sample a component leads further than nine samples before another one,
+/// which is in whole samples.
 #[inline(always)]
 fn ahead(component: i16, centre: i16) -> u8
     requires short { unsigned_abs centre ≤ 64 }

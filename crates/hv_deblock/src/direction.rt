@@ -5,7 +5,7 @@ ghost use Rattle.std.specs.Prelude.{◌≡◌, ◌<◌};
 ghost use Rattle.hv_deblock.specs.Filled.{Vertical, Horizontal};
 
 use crate::squares::CodedSquares;
-use hv_deblock_model::SquareCoding;
+use hv_plan::Unit;
 use hv_types::Plane;
 
 /// The edges of a pass. Each direction is a type, so that its code is compiled for it alone.
@@ -35,12 +35,19 @@ pub(crate) trait Edges {
         requires y { y < rows_of direction plane.old }
         ensures { plane.new ≡ with_sample_of direction plane.old x y value };
 
-    /// The square at a column across the edges, and a row along them.
-    fn square<S: CodedSquares>(squares: &S, column: u32, row: u32) -> SquareCoding
+    /// The unit of the square at a column across the edges, and a row along them.
+    fn unit<S: CodedSquares>(squares: &S, column: u32, row: u32) -> Unit
         requires column { column <
             first_of direction (S.columns squares.now) (S.rows squares.now) }
         requires row { row < second_of direction (S.columns squares.now) (S.rows squares.now) }
-        ensures { result ≡ seen direction (S.coding squares.now) column row };
+        ensures { result ≡ (seen direction (S.coding squares.now) column row).unit };
+
+    /// Whether its luma transform block has a level that isn't 0.
+    fn has_levels<S: CodedSquares>(squares: &S, column: u32, row: u32) -> bool
+        requires column { column <
+            first_of direction (S.columns squares.now) (S.rows squares.now) }
+        requires row { row < second_of direction (S.columns squares.now) (S.rows squares.now) }
+        ensures { result ≡ (seen direction (S.coding squares.now) column row).has_levels };
 }
 
 /// Edges between columns of a picture.
@@ -70,8 +77,13 @@ impl Edges for VerticalEdges {
     }
 
     #[inline(always)]
-    fn square<S: CodedSquares>(squares: &S, column: u32, row: u32) -> SquareCoding {
-        squares.square(column, row)
+    fn unit<S: CodedSquares>(squares: &S, column: u32, row: u32) -> Unit {
+        squares.unit(column, row)
+    }
+
+    #[inline(always)]
+    fn has_levels<S: CodedSquares>(squares: &S, column: u32, row: u32) -> bool {
+        squares.has_levels(column, row)
     }
 }
 
@@ -102,7 +114,12 @@ impl Edges for HorizontalEdges {
     }
 
     #[inline(always)]
-    fn square<S: CodedSquares>(squares: &S, column: u32, row: u32) -> SquareCoding {
-        squares.square(row, column)
+    fn unit<S: CodedSquares>(squares: &S, column: u32, row: u32) -> Unit {
+        squares.unit(row, column)
+    }
+
+    #[inline(always)]
+    fn has_levels<S: CodedSquares>(squares: &S, column: u32, row: u32) -> bool {
+        squares.has_levels(row, column)
     }
 }

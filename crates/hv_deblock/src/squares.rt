@@ -7,8 +7,8 @@ ghost use Rattle.hv_deblock.specs.Passes.{strength_of_four, IsCarried, scale};
 
 use crate::component::Component;
 use crate::direction::Edges;
-use crate::strengths::{is_transform_edge, strength};
-use hv_deblock_model::SquareCoding;
+use crate::strengths::{is_transform_edge, motion_strength};
+use hv_plan::Unit;
 
 /// How the squares of 8x8 luma samples of a picture are coded.
 pub trait CodedSquares {
@@ -21,14 +21,21 @@ pub trait CodedSquares {
     /// How each of them is coded.
     ghost coding: { Self → Squares };
 
-    /// How the square at this column and row, both in the picture, is coded.
-    fn square(&self, column: u32, row: u32) -> SquareCoding
+    /// The coding unit of the square at this column and row, both in the picture.
+    fn unit(&self, column: u32, row: u32) -> Unit
         requires column { column < columns self.now }
         requires row { row < rows self.now }
-        ensures { result ≡ coding self.now column row };
+        ensures { result ≡ (coding self.now column row).unit };
+
+    /// Whether the luma transform block of the square at this column and row, both in the picture,
+    /// has a level that isn't 0 (`cbf_luma`).
+    fn has_levels(&self, column: u32, row: u32) -> bool
+        requires column { column < columns self.now }
+        requires row { row < rows self.now }
+        ensures { result ≡ (coding self.now column row).has_levels };
 }
 
-/// The strength of the edge before a square.
+/// The strength of the edge before a square. Levels are asked for only where they decide.
 #[inline(always)]
 fn edge_strength<E: Edges, S: CodedSquares>(squares: &S, column: u32, row: u32) -> u8
     requires least { 0 < column }
@@ -39,13 +46,18 @@ fn edge_strength<E: Edges, S: CodedSquares>(squares: &S, column: u32, row: u32) 
         edge_strength (seen E.direction (S.coding squares.now)) column row }
     ensures most { result ≤ 2 }
 {
-    let behind = E::square(squares, column, row);
-    if is_transform_edge(column, behind.unit.depth) {
-        let before = E::square(squares, column - 1, row);
-        strength(before, behind)
-    } else {
-        0
+    let behind = E::unit(squares, column, row);
+    if !is_transform_edge(column, behind.depth) {
+        return 0;
     }
+    let before = E::unit(squares, column - 1, row);
+    let strength = motion_strength(before.pred, behind.pred);
+    if strength == 0
+        && (E::has_levels(squares, column - 1, row) || E::has_levels(squares, column, row))
+    {
+        return 1;
+    }
+    strength
 }
 
 /// The strength of edge number `k` in the four rows of this number, where `above` is that of the

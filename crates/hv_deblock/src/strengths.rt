@@ -14,7 +14,7 @@ fn vectors_differ(a: Mv, b: Mv) -> bool
 }
 
 /// The strength between two units, without their levels.
-fn motion_strength(p: Pred, q: Pred) -> u8
+pub(crate) fn motion_strength(p: Pred, q: Pred) -> u8
     ensures value { result ≡ motion_strength p q }
     ensures most { result ≤ 2 }
 {

@@ -23,14 +23,15 @@ impl CodedSquares for Alike {
     ghost coding = { λ s column row.
         record { unit = record { depth = 3; pred = s.pred }; has_levels = false } };
 
-    fn square(&self, _column: u32, _row: u32) -> SquareCoding {
-        SquareCoding {
-            unit: Unit {
-                depth: 3,
-                pred: self.pred,
-            },
-            has_levels: false,
+    fn unit(&self, _column: u32, _row: u32) -> Unit {
+        Unit {
+            depth: 3,
+            pred: self.pred,
         }
+    }
+
+    fn has_levels(&self, _column: u32, _row: u32) -> bool {
+        false
     }
 }
 

@@ -9,7 +9,7 @@ ghost use Rattle.hv_filter.specs.JoinedPicture.{lists_of_plan, squares_of_blocks
 
 use hv_block::{Blocks, CtbPlan, address_of};
 use hv_deblock::CodedSquares;
-use hv_deblock_model::SquareCoding;
+use hv_plan::Unit;
 use hv_residual::any_significant;
 
 /// The squares of a picture of so many columns and rows of them.
@@ -40,18 +40,21 @@ fn luma_block(depth: u8, address: usize) -> (usize, usize)
     }
 }
 
-/// How the square at an address is coded.
-fn square_at(plan: &CtbPlan, address: usize) -> SquareCoding
+/// The coding unit of the square at an address.
+fn unit_at(plan: &CtbPlan, address: usize) -> Unit
     requires { address < 64 }
-    ensures { result ≡ square_of_plan (Some (lists_of_plan plan.now)) address }
+    ensures { result ≡ (square_of_plan (Some (lists_of_plan plan.now)) address).unit }
 {
-    let unit = plan.units()[address];
-    let (first, count) = luma_block(unit.depth, address);
-    let levels = &plan.luma()[64 * first..64 * first + 64 * count];
-    SquareCoding {
-        unit,
-        has_levels: any_significant(levels),
-    }
+    plan.units()[address]
+}
+
+/// Whether the luma transform block that has the square at an address has a level that isn't 0.
+fn has_levels_at(plan: &CtbPlan, address: usize) -> bool
+    requires { address < 64 }
+    ensures { result ≡ (square_of_plan (Some (lists_of_plan plan.now)) address).has_levels }
+{
+    let (first, count) = luma_block(plan.units()[address].depth, address);
+    any_significant(&plan.luma()[64 * first..64 * first + 64 * count])
 }
 
 impl<'a, B: Blocks> CodedSquares for BlockSquares<'a, B> {
@@ -61,10 +64,17 @@ impl<'a, B: Blocks> CodedSquares for BlockSquares<'a, B> {
 
     ghost coding = { λ s. squares_of_blocks (8 * s.columns) (B.blocks s.blocks.now) };
 
-    fn square(&self, column: u32, row: u32) -> SquareCoding {
+    fn unit(&self, column: u32, row: u32) -> Unit {
         let across = self.columns.div_ceil(8);
         let block = self.blocks.block(row / 8 * across + column / 8);
         let address = address_of((column % 8) as usize, (row % 8) as usize);
-        square_at(&block.plan, address)
+        unit_at(&block.plan, address)
+    }
+
+    fn has_levels(&self, column: u32, row: u32) -> bool {
+        let across = self.columns.div_ceil(8);
+        let block = self.blocks.block(row / 8 * across + column / 8);
+        let address = address_of((column % 8) as usize, (row % 8) as usize);
+        has_levels_at(&block.plan, address)
     }
 }

@@ -36,8 +36,13 @@ impl CodedSquares for Squares {
     ghost coding = { λ s column row. slice_index_or s.list.items (row * 32 + column) no_square };
 
     #[inline(always)]
-    fn square(&self, column: u32, row: u32) -> SquareCoding {
-        self.list[row as usize * SQUARES + column as usize]
+    fn unit(&self, column: u32, row: u32) -> Unit {
+        self.list[row as usize * SQUARES + column as usize].unit
+    }
+
+    #[inline(always)]
+    fn has_levels(&self, column: u32, row: u32) -> bool {
+        self.list[row as usize * SQUARES + column as usize].has_levels
     }
 }
 

@@ -8,6 +8,7 @@ mod LineLemmas
 pub mod PutRowLemmas
 mod PutUnitLemmas
 pub mod RebuiltLeafLemmas
+pub mod RunLemmas
 pub mod BlockLemmas
 pub mod ChoiceLemmas
 pub mod NextBlockLemmas

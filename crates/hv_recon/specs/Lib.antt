@@ -6,5 +6,6 @@ pub mod DecodedNodes
 pub mod Leaves
 pub mod Levels
 pub mod Rows
+pub mod Runs
 pub mod Units
 pub mod Views

@@ -11,6 +11,7 @@ mod leaf;
 mod node_laws;
 mod picture_laws;
 mod put;
+mod run;
 mod shapes;
 mod sizes;
 #[cfg(test)]

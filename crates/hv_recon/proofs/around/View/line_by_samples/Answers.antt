@@ -6,7 +6,7 @@ use Rattle.hv_block.proofs.EdgeLemmas.{tabulate-filled}
 use Rattle.hv_recon_model.specs.SeenSamples.{Spot, SamplesAround, look_around}
 use Rattle.hv_recon.specs.Views.{spot_of, around_of}
 use Rattle.hv_recon.proofs.FilledLineLemmas.{left_at, above_at, filled_behind}
-use Rattle.hv_recon.proofs.around.View.line.Goals as goal
+use Rattle.hv_recon.proofs.around.View.line_by_samples.Goals as goal
 
 pub loop-i-init : goal.loop-i-init
 unfolding tabulate

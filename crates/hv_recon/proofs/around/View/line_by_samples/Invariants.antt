@@ -2,7 +2,7 @@ use Rattle.std.proofs.Common.{◌≡◌, ◌+◌, ◌++◌, length, take}
 use Rattle.hv_lemmas.specs.Lists.{tabulate}
 use Rattle.hv_recon.specs.Views.{spot_of, around_of}
 use Rattle.hv_recon.proofs.FilledLineLemmas.{left_at, above_at}
-use Rattle.hv_recon.proofs.around.View.line.Given as goal
+use Rattle.hv_recon.proofs.around.View.line_by_samples.Given as goal
 
 abbrev pub invariant-loop-i : goal.invariant-loop-i
 invariant-loop-i l =

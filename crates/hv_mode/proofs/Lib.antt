@@ -15,6 +15,11 @@ mod CandidateLemmas
 mod CtbLemmas
 mod DecidedLemmas
 mod FoundLemmas
+mod LimitLemmas
+mod SplitBelowLemmas
+mod SplitBinLemmas
+mod SplitCostLemmas
+mod SplitErrorLemmas
 mod SplitLemmas
 mod StillLemmas
 mod TriedLemmas

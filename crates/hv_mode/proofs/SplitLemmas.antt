@@ -97,7 +97,7 @@ second_child size address node =
     let at : address + 1 * squares size ≡ address + squares size = omega arith in
     subst (IsNodeOfBlock size) at (child_node size address 1 node (lit< tt))
 
-stands_at : (t : Task) (s : Block) (a b : ℕ) (before : Before) → a ≡ b →
+pub stands_at : (t : Task) (s : Block) (a b : ℕ) (before : Before) → a ≡ b →
     Stands t s a before → Stands t s b before
 stands_at t s a b before same stands = subst (λ n. Stands t s n before) same stands
 

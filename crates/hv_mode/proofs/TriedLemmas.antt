@@ -14,6 +14,7 @@ use Rattle.hv_mode.specs.declared.task.Task.{Task}
 use Rattle.hv_mode.specs.Nodes.{given_of, Stands, SameBefore, Decides, CopiesNode}
 use Rattle.hv_mode.specs.Vectors.{references_of}
 use Rattle.hv_mode.specs.WaitingNodes.{Tried, more_trees, least_tried, Costs, Waits, WaitsIf}
+use Rattle.hv_mode.specs.Limits.{CostsAtLeast}
 use Rattle.hv_mode.proofs.FrameLemmas.{same_sym, same_trans, stands_since, restored}
 use Rattle.hv_mode.proofs.NodeFrameLemmas.{decides_kept}
 
@@ -65,11 +66,11 @@ second_is_cheaper f first second m n is_m is_n less =
     ap (λ test. cond test second first)
     (ap₂ nat_lt (sym is_n) (sym is_m) ∙ lt_below n m less)
 
-second_is_not : (f : Tree → ℕ) (first second : Tree) (m n : ℕ) → m ≡ f first →
-    n ≡ f second → m ≤ n → cheaper f first second ≡ first
-second_is_not f first second m n is_m is_n more =
+second_is_not : (f : Tree → ℕ) (first second : Tree) (m : ℕ) → m ≡ f first →
+    m ≤ f second → cheaper f first second ≡ first
+second_is_not f first second m is_m more =
     ap (λ test. cond test second first)
-    (ap₂ nat_lt (sym is_n) (sym is_m) ∙ lt_not_below n m more)
+    (ap (nat_lt (f second)) (sym is_m) ∙ lt_not_below (f second) m more)
 
 -- of one more tree, behind the others
 first_least_more : (f : Tree → ℕ) (first : Tree) (others : List Tree) (next : Tree) →
@@ -120,6 +121,38 @@ waits_as t size address trees others old waiting (Some cost) same waits =
           (same before here);
     }
 
+-- one more tree than those of which the first of least cost waits
+module _ (t : Task) (size address : ℕ) (trees : Tried) (choice : Before → Tree)
+    (old waiting : Block) (least : ℕ) (waits : Waits t size address trees old waiting least) where
+  pub cheaper_than : (before : Before) → Stands t old address before →
+      least_tried t size address (more_trees trees choice) before ≡
+      cheaper (cost_of (given_of t) size address before) (least_tried t size address trees before)
+      (choice before)
+  cheaper_than before here =
+      least_more (given_of t) size address before (trees before) (choice before)
+      (waits.some before here)
+
+  -- it costs less
+  pub more_is_least : (next : ℕ) → Costs t size address choice old next → next < least →
+      (before : Before) → Stands t old address before →
+      choice before ≡ least_tried t size address (more_trees trees choice) before
+  more_is_least next costs less before here =
+      sym (cheaper_than before here ∙
+      second_is_cheaper (cost_of (given_of t) size address before)
+      (least_tried t size address trees before) (choice before) least next
+      (waits.costs before here) (costs before here) less)
+
+  -- or it doesn't
+  pub first_is_least : CostsAtLeast t size address choice old least → (before : Before) →
+      Stands t old address before →
+      least_tried t size address trees before ≡
+      least_tried t size address (more_trees trees choice) before
+  first_is_least more before here =
+      sym (cheaper_than before here ∙
+      second_is_not (cost_of (given_of t) size address before)
+      (least_tried t size address trees before) (choice before) least (waits.costs before here)
+      (more before here))
+
 module _ (t : Task) (size address : ℕ) (trees : Tried) (choice : Before → Tree)
     (old out waiting new : Block) (next : ℕ) (decides : Decides t size address choice old out)
     (counts : CountsNode t size address out next) where
@@ -156,33 +189,12 @@ module _ (t : Task) (size address : ℕ) (trees : Tried) (choice : Before → Tr
       (none before here)))
 
   module _ (least : ℕ) (waits : Waits t size address trees old waiting least) where
-    both : (before : Before) → Stands t old address before →
-        least_tried t size address (more_trees trees choice) before ≡
-        cheaper (cost_of g size address before) (least_tried t size address trees before)
-        (choice before)
-    both before here =
-        least_more g size address before (trees before) (choice before) (waits.some before here)
-
-    -- it costs less than what waits
-    next_is_least : next < least → (before : Before) → Stands t old address before →
-        choice before ≡ least_tried t size address (more_trees trees choice) before
-    next_is_least less before here =
-        sym (both before here ∙
-        second_is_cheaper (cost_of g size address before)
-        (least_tried t size address trees before) (choice before) least next
-        (waits.costs before here) (of_next before here) less)
-
     pub next_waits : next < least → CopiesNode size address out waiting new →
         Waits t size address (more_trees trees choice) old new next
-    next_waits less copies = copied_waits copies (next_is_least less)
+    next_waits less copies =
+        copied_waits copies
+        (more_is_least t size address trees choice old waiting least waits next of_next less)
 
-    pub next_decides : next < least →
-        Decides t size address (least_tried t size address (more_trees trees choice)) old out
-    next_decides less =
-        decides_as t size address choice
-        (least_tried t size address (more_trees trees choice)) old out (next_is_least less) decides
-
-    -- or it doesn't
     pub still_waits : least ≤ next →
         Waits t size address (more_trees trees choice) old waiting least
     still_waits more = record {
@@ -200,11 +212,9 @@ module _ (t : Task) (size address : ℕ) (trees : Tried) (choice : Before → Tr
       still : (before : Before) → Stands t old address before →
           least_tried t size address trees before ≡
           least_tried t size address (more_trees trees choice) before
-      still before here =
-          sym (both before here ∙
-          second_is_not (cost_of g size address before)
-          (least_tried t size address trees before) (choice before) least next
-          (waits.costs before here) (of_next before here) more)
+      still =
+          first_is_least t size address trees choice old waiting least waits
+          (λ before here. let costs = of_next before here in omega (arith, costs, more))
 
 -- what waits is copied back, whatever was tried meanwhile
 pub waiting_decides : (t : Task) (size address : ℕ) (trees : Tried)

@@ -1,4 +1,5 @@
 pub mod Copies
+pub mod Limits
 pub mod LumaModes
 pub mod Motions
 pub mod NodeErrors

@@ -2,6 +2,7 @@
 //! chooses takes memory, and each equals its definition.
 #![tactic(auto)]
 
+mod below;
 mod blank;
 mod copy;
 mod cost;

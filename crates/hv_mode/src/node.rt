@@ -9,9 +9,9 @@ ghost use Rattle.hv_mode_model.specs.ModeDecision.{best};
 ghost use Rattle.hv_mode.specs.Nodes.{given_of, Decides};
 ghost use Rattle.hv_mode.specs.SplitNodes.{split_choice, tried_choice};
 
+use crate::below::try_split;
 use crate::blank::decide_blank;
 use crate::copy::copy_node;
-use crate::cost::cost_node;
 use crate::task::Task;
 use crate::tried::try_units;
 use hv_block::Block;
@@ -63,7 +63,6 @@ pub(crate) fn decide_node(
 }
 
 /// Decides a node that lies in the picture.
-#[cycle(deciding)]
 fn decide_inside(task: &Task<'_>, room: &mut [Block], size: u8, address: u8, out: &mut Block)
     requires node { IsNodeOfBlock size address }
     requires right { x0 task.now.place address + side size ≤ task.now.place.width }
@@ -80,8 +79,8 @@ fn decide_inside(task: &Task<'_>, room: &mut [Block], size: u8, address: u8, out
 
 /// Decides a node that lies in the picture, as one coding unit in each way that is tried, or split:
 /// the first of least cost. The best unit waits in a block of `room` while the split is tried.
-#[cycle(deciding)]
 fn decide_tried(task: &Task<'_>, room: &mut [Block], size: u8, address: u8, out: &mut Block)
+    requires tried { 0 < task.now.effort }
     requires node { IsNodeOfBlock size address }
     requires right { x0 task.now.place address + side size ≤ task.now.place.width }
     requires bottom { y0 task.now.place address + side size ≤ task.now.place.height }
@@ -92,12 +91,7 @@ fn decide_tried(task: &Task<'_>, room: &mut [Block], size: u8, address: u8, out:
     let (lower, mine) = room.split_at_mut(usize::from(size));
     let waiting = &mut mine[0];
     let least = try_units(task, size, address, out, waiting);
-    if size == 0 {
-        return copy_node(size, address, waiting, out);
-    }
-    decide_split(task, lower, size, address, out);
-    let split_cost = cost_node(task, size, address, out);
-    if split_cost < least {
+    if size > 0 && try_split(task, lower, size, address, least, out).is_some() {
         return;
     }
     copy_node(size, address, waiting, out);

@@ -58,3 +58,14 @@ cost_is g size address before tree planned result errors bins same priced measur
     ap₂ (cost g.qp) measured
     (counted ∙
     ap (λ t. length (bins_of_node g.surroundings size address before.earlier t)) (sym same))
+
+-- of which the squared differences alone are a part
+pub cost_is_more : (g : Given) (size address : ℕ) (before : Before) (tree : Tree)
+    (result errors : ℕ) → result ≡ cost g.qp errors 0 →
+    errors ≡
+    squared_errors g.input (decoded_behind g size address tree before.decoded)
+    (node_square g size address) →
+    result ≤ cost_of g size address before tree
+unfolding cost_of
+cost_is_more g size address before tree result errors priced measured =
+    omega (arith, priced, measured)

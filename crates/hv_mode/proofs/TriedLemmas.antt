@@ -14,7 +14,7 @@ use Rattle.hv_mode.specs.declared.task.Task.{Task}
 use Rattle.hv_mode.specs.Nodes.{given_of, Stands, SameBefore, Decides, CopiesNode}
 use Rattle.hv_mode.specs.Vectors.{references_of}
 use Rattle.hv_mode.specs.WaitingNodes.{Tried, more_trees, least_tried, Costs, Waits, WaitsIf}
-use Rattle.hv_mode.specs.Limits.{CostsAtLeast}
+use Rattle.hv_mode.specs.Limits.{IsUpTo, CostsAtLeast}
 use Rattle.hv_mode.proofs.FrameLemmas.{same_sym, same_trans, stands_since, restored}
 use Rattle.hv_mode.proofs.NodeFrameLemmas.{decides_kept}
 
@@ -57,6 +57,33 @@ costs_choice t size address choice old new result decides counts before here =
     let there = stands_since t address before old new decides.kept here in
     counts before (choice before) there.earlier (sym (decides.coded before here))
     (decides.stands before here).decoded
+
+-- that of a node that was decided, up to a limit
+abbrev pub CountsUpTo : Task → ℕ → ℕ → Block → ℕ → ℕ → Type 0
+CountsUpTo t size address block limit result =
+    (before : Before) (tree : Tree) →
+    Shows t.place (lists_with_vectors block.plan) address before.earlier →
+    coded_node (given_of t) size address before tree ≡
+    node_of_plan t.place block.plan size address →
+    AreSeen t.place (references_of t) t.near.now block.samples (address + squares size)
+    (decoded_behind (given_of t) size address tree before.decoded) →
+    IsUpTo limit (cost_of (given_of t) size address before tree) result
+
+module _ (t : Task) (size address : ℕ) (choice : Before → Tree) (old new : Block)
+    (limit result : ℕ) (decides : Decides t size address choice old new)
+    (counts : CountsUpTo t size address new limit result) where
+  up_to : (before : Before) → Stands t old address before →
+      IsUpTo limit (cost_of (given_of t) size address before (choice before)) result
+  up_to before here =
+      let there = stands_since t address before old new decides.kept here in
+      counts before (choice before) there.earlier (sym (decides.coded before here))
+      (decides.stands before here).decoded
+
+  pub costs_below : result < limit → Costs t size address choice old result
+  costs_below less = λ before here. (up_to before here).less less
+
+  pub costs_more : limit ≤ result → CostsAtLeast t size address choice old limit
+  costs_more more = λ before here. (up_to before here).more more
 
 -- ---- the one that costs less
 
@@ -153,21 +180,33 @@ module _ (t : Task) (size address : ℕ) (trees : Tried) (choice : Before → Tr
       (least_tried t size address trees before) (choice before) least (waits.costs before here)
       (more before here))
 
+  -- then the one that waits still does
+  pub still_waits : CostsAtLeast t size address choice old least →
+      Waits t size address (more_trees trees choice) old waiting least
+  still_waits more = record {
+    first = waits.first;
+    into = waits.into;
+    some = λ before here. some_more (trees before) (choice before);
+    decided =
+        decides_as t size address (least_tried t size address trees)
+        (least_tried t size address (more_trees trees choice)) old waits.first
+        (first_is_least more) waits.decided;
+    copied = waits.copied;
+    costs = λ before here.
+        waits.costs before here ∙
+        ap (cost_of (given_of t) size address before) (first_is_least more before here);
+  }
+
 module _ (t : Task) (size address : ℕ) (trees : Tried) (choice : Before → Tree)
     (old out waiting new : Block) (next : ℕ) (decides : Decides t size address choice old out)
-    (counts : CountsNode t size address out next) where
-  abbrev g : Given
-  g = given_of t
-
-  of_next : Costs t size address choice old next
-  of_next = costs_choice t size address choice old out next decides counts
-
+    (costs : Costs t size address choice old next)
+    (copies : CopiesNode size address out waiting new) where
   -- the new one was copied, where it is the first of least cost
-  copied_waits : CopiesNode size address out waiting new →
+  copied_waits :
       ((before : Before) → Stands t old address before →
       choice before ≡ least_tried t size address (more_trees trees choice) before) →
       Waits t size address (more_trees trees choice) old new next
-  copied_waits copies is = record {
+  copied_waits is = record {
     first = out;
     into = waiting;
     some = λ before here. some_more (trees before) (choice before);
@@ -176,45 +215,23 @@ module _ (t : Task) (size address : ℕ) (trees : Tried) (choice : Before → Tr
         (least_tried t size address (more_trees trees choice)) old out is decides;
     copied = copies;
     costs = λ before here.
-        of_next before here ∙ ap (cost_of g size address before) (is before here);
+        costs before here ∙ ap (cost_of (given_of t) size address before) (is before here);
   }
 
   -- nothing was tried before
   pub first_waits : WaitsIf t size address trees old waiting None →
-      CopiesNode size address out waiting new →
       Waits t size address (more_trees trees choice) old new next
-  first_waits none copies =
-      copied_waits copies (λ before here.
-      sym (ap (λ list. least_of g size address before (list ++ choice before ∷ []))
+  first_waits none =
+      copied_waits (λ before here.
+      sym (ap (λ list. least_of (given_of t) size address before (list ++ choice before ∷ []))
       (none before here)))
 
-  module _ (least : ℕ) (waits : Waits t size address trees old waiting least) where
-    pub next_waits : next < least → CopiesNode size address out waiting new →
-        Waits t size address (more_trees trees choice) old new next
-    next_waits less copies =
-        copied_waits copies
-        (more_is_least t size address trees choice old waiting least waits next of_next less)
-
-    pub still_waits : least ≤ next →
-        Waits t size address (more_trees trees choice) old waiting least
-    still_waits more = record {
-      first = waits.first;
-      into = waits.into;
-      some = λ before here. some_more (trees before) (choice before);
-      decided =
-          decides_as t size address (least_tried t size address trees)
-          (least_tried t size address (more_trees trees choice)) old waits.first still
-          waits.decided;
-      copied = waits.copied;
-      costs = λ before here.
-          waits.costs before here ∙ ap (cost_of g size address before) (still before here);
-    } where
-      still : (before : Before) → Stands t old address before →
-          least_tried t size address trees before ≡
-          least_tried t size address (more_trees trees choice) before
-      still =
-          first_is_least t size address trees choice old waiting least waits
-          (λ before here. let costs = of_next before here in omega (arith, costs, more))
+  -- or it costs less than what waits
+  pub next_waits : (least : ℕ) → Waits t size address trees old waiting least → next < least →
+      Waits t size address (more_trees trees choice) old new next
+  next_waits least waits less =
+      copied_waits
+      (more_is_least t size address trees choice old waiting least waits next costs less)
 
 -- what waits is copied back, whatever was tried meanwhile
 pub waiting_decides : (t : Task) (size address : ℕ) (trees : Tried)

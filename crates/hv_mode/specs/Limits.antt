@@ -1,11 +1,16 @@
 -- Nodes that are decided below a limit: a choice that costs as much, or more, is given up.
-use Rattle.std.specs.Prelude.{ℕ, ◌<◌, ◌≤◌, Option, Some, None}
+use Rattle.std.specs.Prelude.{◌≡◌, ℕ, ◌<◌, ◌≤◌, Option, Some, None}
 use Rattle.hv_block.specs.declared.block.Block.{Block}
 use Rattle.hv_tree_model.specs.Trees.{Tree}
 use Rattle.hv_mode_model.specs.ModeDecision.{Before, cost_of}
 use Rattle.hv_mode.specs.declared.task.Task.{Task}
 use Rattle.hv_mode.specs.Nodes.{given_of, Stands, SameBefore, Decides}
 use Rattle.hv_mode.specs.WaitingNodes.{Costs}
+
+-- a number is a cost, where it is less than a limit; else the cost isn't less than that either
+pub record IsUpTo (limit cost number : ℕ) : Type 0 where
+  pub less : number < limit → number ≡ cost
+  pub more : limit ≤ number → limit ≤ cost
 
 -- a choice costs at least so much, wherever the node may stand in a block
 abbrev pub CostsAtLeast : Task → ℕ → ℕ → (Before → Tree) → Block → ℕ → Type 0

@@ -10,6 +10,7 @@ ghost use Rattle.hv_near.specs.Squares.{Shows, NamesNode};
 ghost use Rattle.hv_recon.specs.Leaves.{AreSeen, lists_with_vectors};
 ghost use Rattle.hv_recon.specs.DecodedNodes.{node_of_plan, IsNodeOfBlock};
 ghost use Rattle.hv_mode_model.specs.ModeDecision.{Before, decoded_behind, coded_node, cost_of};
+ghost use Rattle.hv_mode.specs.Limits.{IsUpTo};
 ghost use Rattle.hv_mode.specs.Nodes.{given_of};
 ghost use Rattle.hv_mode.specs.Vectors.{references_of};
 
@@ -66,6 +67,31 @@ pub(crate) fn cost_node(task: &Task<'_>, size: u8, address: u8, block: &Block) -
         result ≡ cost_of (given_of task.now) size address before tree }
 {
     let errors = node_errors(task, size, address, &block.samples);
+    let bins = node_bins(task, size, address, block);
+    cost(task.qp, errors, bins)
+}
+
+/// The cost of a node, as `cost_node` has it, where it is less than a limit. Where the squared
+/// errors alone cost as much as that, no bin is counted, and the answer is what they cost.
+pub(crate) fn cost_up_to(task: &Task<'_>, size: u8, address: u8, limit: u64, block: &Block) -> u64
+    requires node { IsNodeOfBlock size address }
+    requires right { x0 task.now.place address + side size ≤ task.now.place.width }
+    requires bottom { y0 task.now.place address + side size ≤ task.now.place.height }
+    requires names { NamesNode task.now.place (lists_of_plan block.now.plan) size address }
+    ensures { (before : Before) (tree : Tree) →
+        Shows task.now.place (lists_with_vectors block.now.plan) address before.earlier →
+        coded_node (given_of task.now) size address before tree ≡
+        node_of_plan task.now.place block.now.plan size address →
+        AreSeen task.now.place (references_of task.now) task.now.near.now block.now.samples
+        (address + squares size)
+        (decoded_behind (given_of task.now) size address tree before.decoded) →
+        IsUpTo limit (cost_of (given_of task.now) size address before tree) result }
+{
+    let errors = node_errors(task, size, address, &block.samples);
+    let without_bins = cost(task.qp, errors, 0);
+    if limit <= without_bins {
+        return without_bins;
+    }
     let bins = node_bins(task, size, address, block);
     cost(task.qp, errors, bins)
 }

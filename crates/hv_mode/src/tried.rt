@@ -14,7 +14,7 @@ ghost use Rattle.hv_mode.specs.SplitNodes.{unit_choices};
 ghost use Rattle.hv_mode.specs.WaitingNodes.{Tried, more_trees, with_entry, Waits, WaitsIf};
 
 use crate::copy::copy_node;
-use crate::cost::cost_node;
+use crate::cost::{cost_node, cost_up_to};
 use crate::found::found;
 use crate::inter_choice::decide_inter;
 use crate::leaf::decide_leaf;
@@ -41,11 +41,11 @@ fn keep_less(
         WaitsIf task.now size address trees old waiting.old least →
         Waits task.now size address (more_trees trees choice) old waiting.new result }
 {
-    let next = cost_node(task, size, address, out);
     let Some(least) = least else {
         copy_node(size, address, out, waiting);
-        return next;
+        return cost_node(task, size, address, out);
     };
+    let next = cost_up_to(task, size, address, least, out);
     if next < least {
         copy_node(size, address, out, waiting);
         return next;

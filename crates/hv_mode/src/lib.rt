@@ -27,6 +27,8 @@ mod square;
 mod task;
 #[cfg(test)]
 mod tasks_for_tests;
+#[cfg(test)]
+mod tie_tests;
 mod tried;
 
 pub use ctb::{Room, decide_ctb};

@@ -1,7 +1,7 @@
 -- A node that is split below a limit of cost: each part is decided below what the parts before it
 -- have left, and the split is given up with the first part that is.
 use Rattle.std.proofs.Common.{◌≡◌, ℕ, zero, suc, ◌+◌, ◌-◌, ◌*◌, ◌/◌, ◌%◌, ◌^◌, ◌<◌, ◌≤◌, false, refl, sym, ap, subst, ◌∙◌, arith}
-use Rattle.std.specs.Prelude.{Option, Some, None}
+use Rattle.std.specs.Prelude.{Option, Some}
 use Rattle.std.proofs.lemmas.Bool.Decides.{nat_tests}
 use Rattle.hv_block.specs.declared.block.Block.{Block}
 use Rattle.hv_tree_model.specs.Trees.{Tree, side}
@@ -21,7 +21,7 @@ use Rattle.hv_mode.specs.SplitNodes.{split_choice, tried_choice}
 use Rattle.hv_mode.specs.Limits.{IsBelow, GivenUp, DecidesBelow}
 use Rattle.hv_mode.proofs.BestLemmas.{begins_inside, not_split, best_tried}
 use Rattle.hv_mode.proofs.FrameLemmas.{same_refl, same_trans, same_less}
-use Rattle.hv_mode.proofs.LimitLemmas.{is_below, given_up, below_as}
+use Rattle.hv_mode.proofs.LimitLemmas.{is_below, below_as}
 use Rattle.hv_mode.proofs.SplitCostLemmas.{corner_x, corner_y, costs_of_parts}
 use Rattle.hv_mode.proofs.SplitLemmas.{split_decides, stands_at}
 use Rattle.hv_mode.proofs.StillLemmas.{LooksAlike, around_alike}
@@ -60,14 +60,20 @@ node_above size address some node =
     node_of_block (suc (size - 1)) address
     (subst (λ n. IsNodeOfBlock n address) (sym (is_above size some)) node)
 
--- a node that is split, where all is tried of it, and so many squares in each of its parts
+-- a node that is split, and so many squares in each of its parts
 pub record IsSplit (t : Task) (size address step : ℕ) : Type 0 where
-  pub tries : 0 < t.effort
   pub node : IsNodeOfBlock size address
   pub right : x0 t.place address + side size ≤ t.place.width
   pub bottom : y0 t.place address + side size ≤ t.place.height
   pub some : 0 < size
   pub is_step : step ≡ squares (size - 1)
+
+pub split_is : (t : Task) (size address step : ℕ) → IsNodeOfBlock size address →
+    x0 t.place address + side size ≤ t.place.width →
+    y0 t.place address + side size ≤ t.place.height → 0 < size → step ≡ squares (size - 1) →
+    IsSplit t size address step
+split_is t size address step node right bottom some is_step =
+    record { node = node; right = right; bottom = bottom; some = some; is_step = is_step }
 
 module _ (t : Task) (size address step : ℕ) (is_split : IsSplit t size address step) (k z : ℕ)
     (few : k < 4) (is : z ≡ address + k * step) where
@@ -89,30 +95,40 @@ module _ (t : Task) (size address step : ℕ) (is_split : IsSplit t size address
       (subst (λ n. y0 t.place address + side n ≤ t.place.height)
       (sym (is_above size is_split.some)) is_split.bottom)
 
-  -- the part's choice is the one of all that is tried of it
-  module _ (limit : ℕ) (old new : Block) (result : Option ℕ)
-      (decides : DecidesBelow t (size - 1) z (tried_choice t (size - 1) z) limit old new result)
-    where
-      part_decides :
-          DecidesBelow t (size - 1) z (best (given_of t) (size - 1) z) limit old new result
-      part_decides =
-          below_as t (size - 1) z (tried_choice t (size - 1) z) limit
-          (best (given_of t) (size - 1) z) old new result
-          (λ before here. sym (best_tried t z before
-          (begins_inside t.place (size - 1) z part_right part_bottom) is_split.tries (size - 1)
-          (not_split t.place (size - 1) z part_right part_bottom))) decides
+-- ---- a part that was decided below its limit
 
-      pub part_below : (cost : ℕ) → result ≡ Some cost →
-          IsBelow t (size - 1) z (best (given_of t) (size - 1) z) limit old new cost
-      part_below cost some =
-          is_below t (size - 1) z (best (given_of t) (size - 1) z) limit old new result cost some
-          part_decides
+pub record Part (t : Task) (size z : ℕ) (old : Block) : Type 0 where
+  pub new : Block
+  pub limit : ℕ
+  pub cost : ℕ
+  pub is : IsBelow t (size - 1) z (best (given_of t) (size - 1) z) limit old new cost
 
-      pub part_up : result ≡ None →
-          GivenUp t (size - 1) z (best (given_of t) (size - 1) z) limit old new
-      part_up none =
-          given_up t (size - 1) z (best (given_of t) (size - 1) z) limit old new result none
-          part_decides
+-- by what was answered
+abbrev pub part_of : (t : Task) (size z limit : ℕ) (old new : Block) (result : Option ℕ) (cost : ℕ) →
+    result ≡ Some cost →
+    DecidesBelow t (size - 1) z (best (given_of t) (size - 1) z) limit old new result →
+    Part t size z old
+part_of t size z limit old new result cost some decides = record {
+  new = new;
+  limit = limit;
+  cost = cost;
+  is =
+      is_below t (size - 1) z (best (given_of t) (size - 1) z) limit old new result cost some
+      decides;
+}
+
+-- where all is tried of a node, that is its choice
+pub below_best : (t : Task) (size address limit : ℕ) (old new : Block) (result : Option ℕ) →
+    0 < t.effort → x0 t.place address + side size ≤ t.place.width →
+    y0 t.place address + side size ≤ t.place.height →
+    DecidesBelow t size address (tried_choice t size address) limit old new result →
+    DecidesBelow t size address (best (given_of t) size address) limit old new result
+below_best t size address limit old new result tries right bottom decides =
+    below_as t size address (tried_choice t size address) limit (best (given_of t) size address)
+    old new result
+    (λ before here. sym (best_tried t address before
+    (begins_inside t.place size address right bottom) tries size
+    (not_split t.place size address right bottom))) decides
 
 -- ---- what a split costs
 
@@ -199,95 +215,101 @@ module _ (t : Task) (size address : ℕ) where
           omega (arith, all, more, spent, priced);
     }
 
-    module _ (s1 : Block) (l1 c1 : ℕ)
-        (first : IsBelow t below address (choice address) l1 s0 s1 c1) where
+    module _ (first : Part t size address s0) where
+      abbrev s1 : Block
+      s1 = first.new
+
       after_a : (before : Before) → Stands t s0 address before →
           Stands t s1 (address + step) (behind_a step before)
       after_a before here =
           stands_at t s1 (address + squares below) (address + step) (behind_a step before)
-          (omega (arith, is_step)) (first.decided.stands before here)
+          (omega (arith, is_step)) (first.is.decided.stands before here)
 
       kept_b : (s2 : Block) → SameBefore (address + step) s1 s2 → SameBefore address s0 s2
       kept_b s2 kept =
-          same_trans address s0 s1 s2 first.decided.kept
+          same_trans address s0 s1 s2 first.is.decided.kept
           (same_less address (address + step) s1 s2 (omega arith) kept)
 
-      pub second_up : (s2 : Block) (left : ℕ) → limit ≤ flag + c1 + left →
+      pub second_up : (s2 : Block) (left : ℕ) → limit ≤ flag + first.cost + left →
           GivenUp t below (address + step) (choice (address + step)) left s1 s2 →
           GivenUp t size address split limit s0 s2
       second_up s2 left spent up = record {
         kept = kept_b s2 up.kept;
         more = λ before here.
-            let all = sum before in let one = first.costs before here in
+            let all = sum before in let one = first.is.costs before here in
             let more = up.more (behind_a step before) (after_a before here) in
             omega (arith, all, one, more, spent, priced);
       }
 
-      module _ (s2 : Block) (l2 c2 : ℕ)
-          (second : IsBelow t below (address + step) (choice (address + step)) l2 s1 s2 c2) where
+      module _ (second : Part t size (address + step) first.new) where
+        abbrev s2 : Block
+        s2 = second.new
+
         after_b : (before : Before) → Stands t s0 address before →
             Stands t s2 (address + 2 * step) (behind_b step before)
         after_b before here =
             stands_at t s2 (address + step + squares below) (address + 2 * step)
             (behind_b step before) (omega (arith, is_step))
-            (second.decided.stands (behind_a step before) (after_a before here))
+            (second.is.decided.stands (behind_a step before) (after_a before here))
 
         kept_c : (s3 : Block) → SameBefore (address + 2 * step) s2 s3 → SameBefore address s0 s3
         kept_c s3 kept =
-            same_trans address s0 s2 s3 (kept_b s2 second.decided.kept)
+            same_trans address s0 s2 s3 (kept_b s2 second.is.decided.kept)
             (same_less address (address + 2 * step) s2 s3 (omega arith) kept)
 
-        pub third_up : (s3 : Block) (left : ℕ) → limit ≤ flag + c1 + c2 + left →
+        pub third_up : (s3 : Block) (left : ℕ) → limit ≤ flag + first.cost + second.cost + left →
             GivenUp t below (address + 2 * step) (choice (address + 2 * step)) left s2 s3 →
             GivenUp t size address split limit s0 s3
         third_up s3 left spent up = record {
           kept = kept_c s3 up.kept;
           more = λ before here.
-              let all = sum before in let one = first.costs before here in
-              let two = second.costs (behind_a step before) (after_a before here) in
+              let all = sum before in let one = first.is.costs before here in
+              let two = second.is.costs (behind_a step before) (after_a before here) in
               let more = up.more (behind_b step before) (after_b before here) in
               omega (arith, all, one, two, more, spent, priced);
         }
 
-        module _ (s3 : Block) (l3 c3 : ℕ)
-            (third : IsBelow t below (address + 2 * step) (choice (address + 2 * step)) l3 s2 s3
-            c3) where
+        module _ (third : Part t size (address + 2 * step) second.new) where
+          abbrev s3 : Block
+          s3 = third.new
+
           after_c : (before : Before) → Stands t s0 address before →
               Stands t s3 (address + 3 * step) (behind_c step before)
           after_c before here =
               stands_at t s3 (address + 2 * step + squares below) (address + 3 * step)
               (behind_c step before) (omega (arith, is_step))
-              (third.decided.stands (behind_b step before) (after_b before here))
+              (third.is.decided.stands (behind_b step before) (after_b before here))
 
-          pub fourth_up : (s4 : Block) (left : ℕ) → limit ≤ flag + c1 + c2 + c3 + left →
+          pub fourth_up : (s4 : Block) (left : ℕ) →
+              limit ≤ flag + first.cost + second.cost + third.cost + left →
               GivenUp t below (address + 3 * step) (choice (address + 3 * step)) left s3 s4 →
               GivenUp t size address split limit s0 s4
           fourth_up s4 left spent up = record {
             kept =
-                same_trans address s0 s3 s4 (kept_c s3 third.decided.kept)
+                same_trans address s0 s3 s4 (kept_c s3 third.is.decided.kept)
                 (same_less address (address + 3 * step) s3 s4 (omega arith) up.kept);
             more = λ before here.
-                let all = sum before in let one = first.costs before here in
-                let two = second.costs (behind_a step before) (after_a before here) in
-                let three = third.costs (behind_b step before) (after_b before here) in
+                let all = sum before in let one = first.is.costs before here in
+                let two = second.is.costs (behind_a step before) (after_a before here) in
+                let three = third.is.costs (behind_b step before) (after_b before here) in
                 let more = up.more (behind_c step before) (after_c before here) in
                 omega (arith, all, one, two, three, more, spent, priced);
           }
 
-          pub all_below : (s4 : Block) (l4 c4 : ℕ) →
-              flag + c1 + c2 + c3 + l4 ≤ limit →
-              IsBelow t below (address + 3 * step) (choice (address + 3 * step)) l4 s3 s4 c4 →
-              IsBelow t size address split limit s0 s4 (flag + c1 + c2 + c3 + c4)
-          all_below s4 l4 c4 spent fourth = record {
+          pub all_below : (fourth : Part t size (address + 3 * step) third.new) →
+              flag + first.cost + second.cost + third.cost + fourth.limit ≤ limit →
+              IsBelow t size address split limit s0 fourth.new
+              (flag + first.cost + second.cost + third.cost + fourth.cost)
+          all_below fourth spent = record {
             decided =
-                split_decides t size step address s0 s1 s2 s3 s4 is_split.some is_step is_split.node
-                (begins_inside t.place size address is_split.right is_split.bottom) first.decided
-                second.decided third.decided fourth.decided;
+                split_decides t size step address s0 s1 s2 s3 fourth.new is_split.some is_step
+                is_split.node (begins_inside t.place size address is_split.right is_split.bottom)
+                first.is.decided second.is.decided third.is.decided fourth.is.decided;
             costs = λ before here.
-                let all = sum before in let one = first.costs before here in
-                let two = second.costs (behind_a step before) (after_a before here) in
-                let three = third.costs (behind_b step before) (after_b before here) in
-                let four = fourth.costs (behind_c step before) (after_c before here) in
+                let all = sum before in let one = first.is.costs before here in
+                let two = second.is.costs (behind_a step before) (after_a before here) in
+                let three = third.is.costs (behind_b step before) (after_b before here) in
+                let four = fourth.is.costs (behind_c step before) (after_c before here) in
                 omega (arith, all, one, two, three, four, priced);
-            less = let h = fourth.less in omega (arith, h, spent);
+            less = let h = fourth.is.less in omega (arith, h, spent);
           }

@@ -85,8 +85,8 @@ module _ (g : Given) (alike : LooksAlike g.surroundings.look g.surroundings.look
   after_coded : (xs ys : List Square) (at : ℕ) (part : Before) (tree : Tree) → Alike xs ys →
       Alike (after size xs (coded_node g size at part tree)) (after size ys tree)
   after_coded xs ys at part tree same =
-      both_alike xs ys (squares_of size (coded_node g size at part tree)) (squares_of size tree) same
-      (squares_alike g.distances s.look size at part.earlier tree)
+      both_alike xs ys (squares_of size (coded_node g size at part tree)) (squares_of size tree)
+      same (squares_alike g.distances s.look size at part.earlier tree)
 
   same_bins : (at : ℕ) (xs ys : List Square) (tree : Tree) → Alike xs ys →
       length (bins_of_node s size at xs tree) ≡ length (bins_of_node s size at ys tree)

@@ -63,8 +63,8 @@ module _ (t : Task) (size address : ℕ) (old waiting : Block) (least : ℕ)
       more_is_least t size address units split old waiting least waits cost costs less before here ∙
       then_split before above
 
-  chosen_unit : SplitsCost t size address old least → (before : Before) → Stands t old address before →
-      unit before ≡ tried before
+  chosen_unit : SplitsCost t size address old least → (before : Before) →
+      Stands t old address before → unit before ≡ tried before
   chosen_unit splits before here = by size refl
     where
       by : (n : ℕ) → n ≡ size → unit before ≡ tried before
@@ -137,11 +137,13 @@ module _ (t : Task) (size address : ℕ) (old waiting : Block) (least : ℕ)
             })
 
     -- or none that costs less
-    pub split_given_up : is_some result ≡ false → (less : ℕ) → less ≤ limit → NoSplit t size address old less new
+    pub split_given_up : is_some result ≡ false → (less : ℕ) → less ≤ limit →
+        NoSplit t size address old less new
     split_given_up is less more = by result is since
       where
         by : (r : Option ℕ) → is_some r ≡ false →
-            DecidesBelow t size address split limit old new r → NoSplit t size address old less new
+            DecidesBelow t size address split limit old new r →
+            NoSplit t size address old less new
         by None none up = record {
           kept = up.kept;
           splits = λ above before here.
@@ -155,8 +157,9 @@ module _ (t : Task) (size address : ℕ) (old waiting : Block) (least : ℕ)
       record { kept = kept; splits = λ above. absurd (omega (arith, above, smallest)) }
 
   -- then one unit
-  pub unit_decided : (mid new : Block) → IsNodeOfBlock size address → NoSplit t size address old least mid →
-      CopiesNode size address waiting mid new → Decides t size address tried old new
+  pub unit_decided : (mid new : Block) → IsNodeOfBlock size address →
+      NoSplit t size address old least mid → CopiesNode size address waiting mid new →
+      Decides t size address tried old new
   unit_decided mid new node none back =
       decides_as t size address unit tried old new (chosen_unit none.splits)
       (waiting_decides t size address units old waiting mid new least node waits none.kept back)
@@ -173,7 +176,7 @@ module _ (t : Task) (size address : ℕ) (old waiting : Block) (least : ℕ)
   }
 
   -- or nothing that costs less than the limit
-  pub none_below : (limit : ℕ) (mid : Block) → limit ≤ least → NoSplit t size address old limit mid →
-      GivenUp t size address tried limit old mid
+  pub none_below : (limit : ℕ) (mid : Block) → limit ≤ least →
+      NoSplit t size address old limit mid → GivenUp t size address tried limit old mid
   none_below limit mid more none =
       record { kept = none.kept; more = all_at_least limit more none.splits }

@@ -5,8 +5,10 @@ ghost use Rattle.std.specs.Prelude.{◌+◌, ◌<◌, ◌≤◌, length};
 ghost use Rattle.hv_tree_model.specs.Trees.{side};
 ghost use Rattle.hv_tree_model.specs.Sites.{x0, y0};
 ghost use Rattle.hv_recon.specs.DecodedNodes.{IsNodeOfBlock};
+ghost use Rattle.hv_mode_model.specs.ModeDecision.{best};
 ghost use Rattle.hv_mode.specs.Limits.{DecidesBelow};
-ghost use Rattle.hv_mode.specs.SplitNodes.{split_choice, tried_choice};
+ghost use Rattle.hv_mode.specs.Nodes.{given_of};
+ghost use Rattle.hv_mode.specs.SplitNodes.{split_choice};
 
 use crate::copy::copy_node;
 use crate::task::Task;
@@ -32,7 +34,7 @@ fn decide_below(
     requires right { x0 task.now.place address + side size ≤ task.now.place.width }
     requires bottom { y0 task.now.place address + side size ≤ task.now.place.height }
     requires room { size < length room.old }
-    ensures { DecidesBelow task.now size address (tried_choice task.now size address) limit
+    ensures { DecidesBelow task.now size address (best (given_of task.now) size address) limit
         out.old out.new result }
 {
     let (lower, mine) = room.split_at_mut(usize::from(size));

@@ -2,7 +2,7 @@
 //! full stage by hand, with the processor's own operations. Nothing of it is shipped.
 #![allow(unsafe_op_in_unsafe_fn)]
 
-use crate::{LUMA_TAPS, decimate, inter_block, sad_block};
+use crate::{decimate, sad_block, LUMA_TAPS};
 use std::hint::black_box;
 
 #[path = "hand_search.rs"]
@@ -112,7 +112,13 @@ fn coarse_vector(input: Grid, reference: Grid, left: usize, top: usize) -> (i16,
         source[16 * j..16 * j + columns].copy_from_slice(&input.samples[from..from + columns]);
     }
     let mut window = [0; 2304];
-    copy_window(reference, left as i64 - 16, top as i64 - 16, 48, &mut window);
+    copy_window(
+        reference,
+        left as i64 - 16,
+        top as i64 - 16,
+        48,
+        &mut window,
+    );
     let sum_at = |at: usize| match columns {
         16 => coarse_sum::<16>(&source, rows, &window[at..]),
         14 => coarse_sum::<14>(&source, rows, &window[at..]),
@@ -192,39 +198,68 @@ fn full_keys(source: &[u8; SIDE * SIDE], window: &[u8; SIDE * SIDE], keys: &mut 
 
 // ---- fractions
 
-fn predict(reference: Grid, x: usize, y: usize, side: usize, mv: (i16, i16), out: &mut [u8]) {
-    let left = x as i64 + i64::from(mv.0 >> 2) - 3;
-    let top = y as i64 + i64::from(mv.1 >> 2) - 3;
-    let fractions = ((mv.0 & 3) as usize, (mv.1 & 3) as usize);
-    let more = side as i64 + 7;
-    let across = 0 <= left && left + more <= reference.width as i64;
-    if across && 0 <= top && top + more <= reference.height as i64 {
-        let window = &reference.samples[top as usize * reference.width + left as usize..];
-        predict_inside(window, reference.width, side, fractions, out);
-    } else {
-        let mut window = [0; 71 * 71];
-        let window = &mut window[..(side + 7) * (side + 7)];
-        copy_window(reference, left, top, side + 7, window);
-        predict_inside(window, side + 7, side, fractions, out);
+// A block, nine samples before it and eight behind it at sixteen fractions: for each 81 rows of 96.
+const COLUMNS: usize = 96;
+const ROWS: usize = 81;
+const AREA: usize = ROWS * COLUMNS;
+const WINDOW: usize = 104;
+
+#[inline(never)]
+fn sums_along_rows(taps: &[i16; 8], window: &[u8], sums: &mut [i16]) {
+    for (row, out) in window
+        .chunks_exact(WINDOW)
+        .zip(sums.chunks_exact_mut(COLUMNS))
+    {
+        let row: &[u8; WINDOW] = row.try_into().unwrap();
+        let out: &mut [i16; COLUMNS] = out.try_into().unwrap();
+        for x in 0..COLUMNS {
+            let mut sum = 0;
+            for k in 0..8 {
+                sum += taps[k] * i16::from(row[x + k]);
+            }
+            out[x] = sum;
+        }
     }
 }
 
-fn predict_inside(
-    window: &[u8],
-    stride: usize,
-    side: usize,
-    fractions: (usize, usize),
-    out: &mut [u8],
-) {
-    let taps = (&LUMA_TAPS[fractions.0], &LUMA_TAPS[fractions.1]);
-    match side {
-        8 => inter_block::<8, 8, 15>(taps, fractions, window, stride, out),
-        9 => inter_block::<9, 8, 16>(taps, fractions, window, stride, out),
-        16 => inter_block::<16, 8, 23>(taps, fractions, window, stride, out),
-        17 => inter_block::<17, 8, 24>(taps, fractions, window, stride, out),
-        32 => inter_block::<32, 8, 39>(taps, fractions, window, stride, out),
-        33 => inter_block::<33, 8, 40>(taps, fractions, window, stride, out),
-        _ => inter_block::<64, 8, 71>(taps, fractions, window, stride, out),
+#[inline(never)]
+fn samples_down_columns(taps: &[i16; 8], sums: &[i16], out: &mut [u8]) {
+    for (y, out) in out.chunks_exact_mut(COLUMNS).enumerate() {
+        let rows: &[i16; 8 * COLUMNS] = sums[y * COLUMNS..(y + 8) * COLUMNS].try_into().unwrap();
+        let out: &mut [u8; COLUMNS] = out.try_into().unwrap();
+        for x in 0..COLUMNS {
+            let mut sum = 0;
+            for k in 0..8 {
+                sum += i32::from(taps[k]) * i32::from(rows[k * COLUMNS + x]);
+            }
+            out[x] = (((sum >> 6) + 32) >> 6).clamp(0, 255) as u8;
+        }
+    }
+}
+
+// The rows along which no fraction lies between: their sums are only rounded.
+#[inline(never)]
+fn rounded_sums(sums: &[i16], out: &mut [u8]) {
+    for (sum, sample) in sums[3 * COLUMNS..].iter().zip(out) {
+        *sample = ((sum + 32) >> 6).clamp(0, 255) as u8;
+    }
+}
+
+// The samples at all fractions around a block that is moved by a vector in whole samples.
+fn put_field(reference: Grid, left: i64, top: i64, field: &mut [u8]) {
+    let mut window = [0; WINDOW * WINDOW];
+    copy_window(reference, left - 12, top - 12, WINDOW, &mut window);
+    let mut sums = [0; 88 * COLUMNS];
+    for right in 0..4 {
+        sums_along_rows(&LUMA_TAPS[right], &window, &mut sums);
+        for below in 0..4 {
+            let at = (4 * right + below) * AREA;
+            let out = &mut field[at..at + AREA];
+            match below {
+                0 => rounded_sums(&sums, out),
+                _ => samples_down_columns(&LUMA_TAPS[below], &sums, out),
+            }
+        }
     }
 }
 
@@ -240,77 +275,47 @@ fn sad_of(first: &[u8], first_stride: usize, second: &[u8], stride: usize, side:
 // A vector around another one, place `t` of nine by rows.
 fn candidate(centre: (i16, i16), step: i16, t: usize) -> (i16, i16) {
     let (right, down) = ((t % 3) as i16, (t / 3) as i16);
-    (centre.0 + step * right - step, centre.1 + step * down - step)
+    (
+        centre.0 + step * right - step,
+        centre.1 + step * down - step,
+    )
 }
 
-// The scores of the stage of halves, from four predictions of a column and a row more.
-fn half_sums(
-    input: Grid,
-    reference: Grid,
-    x: usize,
-    y: usize,
+// A node of a block: its column and row there, its side, and the input from its first sample on.
+struct Node<'a> {
+    column: usize,
+    row: usize,
     side: usize,
-    whole: (i16, i16),
-) -> [u32; 9] {
-    if side == 64 {
-        let mut sums = [0; 9];
-        for (x, y) in [(x, y), (x + 32, y), (x, y + 32), (x + 32, y + 32)] {
-            let part = half_sums(input, reference, x, y, 32, whole);
-            for t in 0..9 {
-                sums[t] += part[t];
-            }
-        }
-        return sums;
-    }
-    let source = &input.samples[y * input.width + x..];
-    let more = side + 1;
-    let mut room = [0; 33 * 33];
-    let samples = &mut room[..more * more];
-    let mut sums = [0; 9];
-    let parts: [(usize, &[(usize, usize)]); 4] = [
-        (0, &[(0, 0), (2, 1), (6, more), (8, more + 1)]),
-        (1, &[(1, 0), (7, more)]),
-        (3, &[(3, 0), (5, 1)]),
-        (4, &[(4, 0)]),
-    ];
-    for (t, places) in parts {
-        predict(reference, x, y, more, candidate(whole, 2, t), samples);
-        for &(place, at) in places {
-            sums[place] = sad_of(source, input.width, &samples[at..], more, side);
-        }
-    }
-    sums
+    source: &'a [u8],
+    stride: usize,
 }
 
-fn least_of_nine(sums: &[u32; 9], centre: (i16, i16), step: i16) -> (u32, (i16, i16)) {
-    let mut best = (sums[4], centre);
-    for t in 0..9 {
-        if sums[t] < best.0 {
-            best = (sums[t], candidate(centre, step, t));
-        }
-    }
-    best
+// The score of a vector from the field, which begins nine samples before the vector `centre`.
+fn sum_at(node: &Node, field: &[u8], centre: (i16, i16), mv: (i16, i16)) -> u32 {
+    let column = ((mv.0 >> 2) - (centre.0 - 9)) as usize + node.column;
+    let row = ((mv.1 >> 2) - (centre.1 - 9)) as usize + node.row;
+    let fraction = 4 * (mv.0 & 3) as usize + (mv.1 & 3) as usize;
+    let samples = &field[fraction * AREA + row * COLUMNS + column..];
+    sad_of(node.source, node.stride, samples, COLUMNS, node.side)
 }
 
-fn quarter_vector(
-    input: Grid,
-    reference: Grid,
-    x: usize,
-    y: usize,
-    side: usize,
-    whole: (i16, i16),
+// The best of a vector and the eight around it, the vector first.
+fn least_around(
+    node: &Node,
+    field: &[u8],
+    centre: (i16, i16),
+    around: (i16, i16),
+    step: i16,
 ) -> (i16, i16) {
-    let sums = half_sums(input, reference, x, y, side, whole);
-    let (sum, half) = least_of_nine(&sums, whole, 2);
-    let source = &input.samples[y * input.width + x..];
-    let mut samples = [0; 4096];
-    let samples = &mut samples[..side * side];
-    let mut sums = [sum; 9];
+    let mut best = (sum_at(node, field, centre, around), around);
     for t in [0, 1, 2, 3, 5, 6, 7, 8] {
-        predict(reference, x, y, side, candidate(half, 1, t), samples);
-        sums[t] = sad_of(source, input.width, samples, side, side);
+        let mv = candidate(around, step, t);
+        let sum = sum_at(node, field, centre, mv);
+        if sum < best.0 {
+            best = (sum, mv);
+        }
     }
-    least_of_nine(&sums, half, 1).1
+    best.1
 }
 
 // ---- a picture
@@ -334,11 +339,15 @@ fn block_vectors(
     quarters: (Grid, Grid),
     x: usize,
     y: usize,
+    field: &mut [u8],
 ) -> Vectors {
     let (input, reference) = grids;
     let (right, down) = coarse_vector(quarters.0, quarters.1, x / 4, y / 4);
     let centre = (4 * right, 4 * down);
-    let (left, top) = (x as i64 + i64::from(centre.0), y as i64 + i64::from(centre.1));
+    let (left, top) = (
+        x as i64 + i64::from(centre.0),
+        y as i64 + i64::from(centre.1),
+    );
     let mut source = [0; SIDE * SIDE];
     copy_window(input, x as i64, y as i64, SIDE, &mut source);
     let mut window = [0; SIDE * SIDE];
@@ -348,6 +357,9 @@ fn block_vectors(
         hand_search::full_keys(&source, &window, &mut keys);
     } else {
         full_keys(&source, &window, &mut keys);
+    }
+    if effort > 1 {
+        put_field(reference, left, top, field);
     }
     let mut vectors = [None; NODES];
     for n in 0..NODES {
@@ -364,7 +376,19 @@ fn block_vectors(
         );
         vectors[n] = Some(match effort {
             1 => full,
-            _ => quarter_vector(input, reference, x, y, side, full),
+            _ => {
+                let source = &input.samples[y * input.width + x..];
+                let stride = input.width;
+                let node = Node {
+                    column,
+                    row,
+                    side,
+                    source,
+                    stride,
+                };
+                let half = least_around(&node, field, centre, full, 2);
+                least_around(&node, field, centre, half, 1)
+            }
         });
     }
     vectors
@@ -379,6 +403,7 @@ fn search_picture(effort: u8, by_hand: bool, input: Grid, reference: Grid) -> Ve
         height: input.height / 4,
     };
     let quarters = (small(&small_input), small(&small_reference));
+    let mut field = vec![0; if effort > 1 { 16 * AREA } else { 0 }];
     let mut vectors = Vec::new();
     for y in (0..input.height).step_by(64) {
         for x in (0..input.width).step_by(64) {
@@ -389,6 +414,7 @@ fn search_picture(effort: u8, by_hand: bool, input: Grid, reference: Grid) -> Ve
                 quarters,
                 x,
                 y,
+                &mut field,
             ));
         }
     }

@@ -101,6 +101,7 @@ fn decided(rt: &impl Abort, alloc: Global, spots: [u8; 4]) -> Result<Block, Fail
         above: None,
         above_right: None,
     };
+    let (found, shown) = (Some(&motion), Some(&frame));
     let task = Task {
         effort: 1,
         qp: 30,
@@ -117,9 +118,9 @@ fn decided(rt: &impl Abort, alloc: Global, spots: [u8; 4]) -> Result<Block, Fail
             first: 1,
             second: -1,
         },
-        motion: Some(&motion),
-        first: Some(&frame),
-        second: Some(&frame),
+        motion: found,
+        first: shown,
+        second: shown,
     };
     let mut room = Room::new(alloc)?;
     let mut out = Block::new(alloc)?;
